@@ -93,5 +93,5 @@ static bool is_all_by_hand_right(void) {
     is_right = is_right && is_all_right("(?#)(?#)(?i)\\1\\2\\3", 18, FANCY_FLAG_UNICODE) && is_all_right("|||||||", 7, 0);
     fancy_buffers all;
     memset(&all, 0xA5, sizeof all);
-    return is_right && fancy_parse_alloc("a", 1, 512, &all).status == FANCY_STATUS_UNKNOWN_FLAG && are_all_zero(&all);
+    return is_right && fancy_parse_alloc("a", 1, 1u << 31, &all).status == FANCY_STATUS_UNKNOWN_FLAG && are_all_zero(&all);
 }

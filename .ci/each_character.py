@@ -63,7 +63,7 @@ def recorded(file):
 def made(count):
     choice = random.Random(1)
     for _ in range(count):
-        flags = fancy.Flag(choice.choice([32, 32, 48, 160, 176, 288, 96, 304, choice.randrange(512)]))
+        flags = fancy.Flag(choice.choice([32, 32, 48, 160, 176, 288, 96, 304, choice.randrange(sum(fancy.Flag) + 1)]))
         yield "".join(choice.choices(PARTS, k=choice.randrange(1, 12))), flags
 
 

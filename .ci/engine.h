@@ -220,7 +220,7 @@ static bool are_ranges_by_hand_right(void) {
                fancy_node_ranges(&node, "a\xff", 2, u, NULL, 0, NULL).status == FANCY_STATUS_NO_TREE;
     node.kind = FANCY_NODE_CONCAT;
     return is_right && fancy_node_ranges(&node, NULL, 0, u, NULL, 0, NULL).status == several &&
-           is_no_class("a", 512, FANCY_STATUS_UNKNOWN_FLAG, 0);
+           is_no_class("a", 1u << 31, FANCY_STATUS_UNKNOWN_FLAG, 0);
 }
 
 static bool resolves(const char *pattern, uint32_t flags) {

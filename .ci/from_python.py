@@ -3,6 +3,8 @@ texts.tsv and characters.tsv. From the nodes and fields of `fancy.parse` it writ
 module's docstring, and compares positions and spans, in characters and in bytes, with those written here. FANCY_LIBRARY names
 the library."""
 
+import concurrent.futures
+import copy
 import ctypes
 import dataclasses
 import doctest
@@ -11,9 +13,11 @@ import pathlib
 import pickle
 import re
 import shutil
+import signal
 import subprocess
 import sys
 import tempfile
+import time
 import unittest.mock
 import warnings
 
@@ -263,6 +267,22 @@ def is_long_right(count):
     )
 
 
+def time_of_name(count):
+    """The seconds of this thread in which the group numbers of a name are gathered that so many groups have."""
+    names = bytes((fancy._Name * count)(*(fancy._Name(text=0, text_size=1, group=it) for it in range(count))))
+    start = time.thread_time()
+    named = fancy._named_groups(names, b"n")
+    seconds = time.thread_time() - start
+    assert named == {"n": tuple(range(count))}
+    return seconds
+
+
+def is_name_linear():
+    """Whether ten times as many groups of one name take ten times as long; a hundred times if each made the tuple anew."""
+    few = time_of_name(5_000)
+    return time_of_name(50_000) < 30 * few
+
+
 def are_buffers_right():
     """Whether results are right where the first buffers of a call are long enough, and where they are too short; and whether a comment
     of 1 MB takes little memory."""
@@ -277,10 +297,48 @@ with open("/proc/self/statm") as file:
     size = int(file.read().split()[0]) * resource.getpagesize()
 resource.setrlimit(resource.RLIMIT_AS, (size + 16_000_000, size + 16_000_000))
 pattern = "(?#" + "a" * 1_000_000 + ")"
-assert call(pattern) == ("Empty", None, 1, ("", "", pattern, "(?x)\\n" + pattern, pattern))
+assert call(pattern) == ("Empty", None, 1, ("", "", pattern, pattern, pattern))
 """
     counts = [*range(36), *range(60, 68), *range(124, 132), *range(252, 260), *range(508, 516), *range(764, 772), *range(1020, 1028), 5000]
     return all(map(is_long_right, counts)) and subprocess.run([sys.executable, "-W", "error", "-c", code]).returncode == 0
+
+
+def are_objects_plain():
+    """Whether what a call makes is as what is made by hand: it can be copied, compared, hashed and pickled, has no fields but its own, and
+    none of them can be changed."""
+    patterns = "(?<n>a+)|[b]\\k<n>", "(?i)\\b.(?=\\R)\\K\\G", "é(?(1)a|b)(c)(?>d)", "(a)\\k<1+2>\\g<1>\\g<n>(*FAIL)(?~e)", b"\\x80"
+    trees = [fancy.parse(it, flags) for it in patterns for flags in (fancy.UNICODE, fancy.MULTI) if fancy.check(it, flags) is None]
+    made = [*trees, *fancy.trivia("(?i)a(?#b)"), *(node for tree in trees for node in tree.walk())]
+    return all(is_object_plain(it) for it in made) and len({it.kind for it in made if isinstance(it, fancy.Node)}) > 17
+
+
+def is_object_plain(it):
+    values = {field.name: getattr(it, field.name) for field in dataclasses.fields(it)}
+    others = [type(it)(**values), copy.copy(it), copy.deepcopy(it), pickle.loads(pickle.dumps(it))]
+    return (
+        vars(it) == values
+        and all(other == it and repr(other) == repr(it) and vars(other) == values for other in others)
+        and (isinstance(it, fancy.Tree) or {hash(other) for other in others} == {hash(it)})
+        and all(refusal(lambda: setattr(it, name, 1))[0] is dataclasses.FrozenInstanceError for name in values)
+    )
+
+
+def are_calls_apart():
+    """Whether calls that run at once have buffers of their own: those of several threads, and one within another."""
+    patterns = ["(a|b)c*", "(?<n>a)\\k<n>", "é[α-ω]é", "a" * 3000, "(?:x)" * 700, "(?#" + "c" * 70000 + ")"]
+    wanted = [(fancy.parse(it), fancy.trivia(it), fancy.to_pattern(it)) for it in patterns]
+
+    def work(_=None):
+        return [(fancy.parse(it), fancy.trivia(it), fancy.to_pattern(it)) for it in patterns] == wanted
+
+    inside = []
+    with concurrent.futures.ThreadPoolExecutor(8) as pool:
+        is_right = all(pool.map(work, range(40)))
+    signal.signal(signal.SIGALRM, lambda *_: inside.append(fancy.parse("(x)(y)").total_groups == len(fancy.trivia("(?:a)"))))
+    signal.setitimer(signal.ITIMER_REAL, 0.0005, 0.0005)
+    is_right = is_right and all(work() for _ in range(10))
+    signal.setitimer(signal.ITIMER_REAL, 0)
+    return is_right and inside and all(inside) and len(fancy._KEPT) <= 16
 
 
 def letters_of(flags):
@@ -369,9 +427,9 @@ def are_formatted_right():
         fancy.format("(?:\\x41){0,1}(?# é)", style=style.KEPT) == "\\x41?(?# é)"
         and fancy.format("(?:\\x41){0,1}(?# é)".encode(), style=style.KEPT) == "\\x41?(?# é)"
         and fancy.format("a  b \n (?:c){1,}   # one", verbose, style.KEPT) == "a b\n c+   # one"
-        and fancy.format("(abcd|ef)g", style=style.VERBOSE) == "(?x)\n(abcd|ef)g"
+        and fancy.format("(abcd|ef)g", style=style.VERBOSE) == "(abcd|ef)g"
         and fancy.format("(abcd|ef)g", style=style.VERBOSE, width=8) == "(?x)\n(\n    abcd\n  | ef\n)\ng"
-        and fancy.format("(abcd|ef)g", style=style.VERBOSE, width=2**64) == "(?x)\n(abcd|ef)g"
+        and fancy.format("(abcd|ef)g", style=style.VERBOSE, width=2**64) == "(abcd|ef)g"
         and fancy.format("(?x)\n  a{0,1} # é\n| b", style=style.COMPACT) == "a?(?# é)|b"
         and fancy.to_pattern("(?:\\x41){0,1}(?# é)") == "A?"
         and raises(ValueError, lambda: fancy.format("a", style=len(style)))
@@ -391,7 +449,7 @@ def are_engine_calls_right():
         and [tree.group_name(group) for group in range(5)] == [None, "n", None, "n", None]
         and [fancy.escape(it) for it in ("1+1", b"a b", "\n")] == ["1\\+1", "a b", "\\n"]
         and fancy.escape("a b", spaces) == "a\\ b"
-        and all(is_text_of(text, fancy.Flag(flags)) for text in texts for flags in range(512))
+        and all(is_text_of(text, fancy.Flag(flags)) for text in texts for flags in range(sum(fancy.Flag) + 1))
         and [fancy.parse_id(it) for it in ("", "année}", b"a-", "{a", "_1")] == ["", "année", "a", "", "_1"]
         and [fancy.parse_decimal(it) for it in ("", "007a", b"1", "a1")] == [None, (3, 7), (1, 1), None]
         and [fancy.parse_decimal(str(2**64 - it)) for it in (1, 0)] == [(20, 2**64 - 1), None]
@@ -487,14 +545,14 @@ def are_flags_looked_at():
         **{it: (TypeError, f"flags are fancy.Flag, not {it!r}: use {names}") for it, names in of_re.items()},
         other: (TypeError, f"flags are fancy.Flag, such as fancy.UNICODE | fancy.CASEI, not {other!r}"),
         32 | 65536: (ValueError, "flags 0x10020 have bits that are no fancy.Flag"),
-        512: (ValueError, "flags 0x200 have bits that are no fancy.Flag"),
+        2**31: (ValueError, "flags 0x80000000 have bits that are no fancy.Flag"),
         2**32 + 32: (ValueError, "flags 0x100000020 have bits that are no fancy.Flag"),
         -1: (ValueError, "flags -0x1 have bits that are no fancy.Flag"),
     }
     return (
         all(refusal(lambda: it("a", flags)) == wanted for it in calls for flags, wanted in refused.items())
         and all(refusal(lambda: it("a", flags))[0] is TypeError for it in calls for flags in (None, "u", 32.0))
-        and all(refusal(lambda: it("a", flags)) is None for it in calls for flags in (0, 33, 511, fancy.Flag(0)))
+        and all(refusal(lambda: it("a", flags)) is None for it in calls for flags in (0, 33, sum(fancy.Flag), fancy.Flag(0)))
         and fancy.parse("A", 33) == fancy.parse("A", fancy.UNICODE | fancy.CASEI)
         and fancy.parse("A", 33).flags is fancy.UNICODE | fancy.CASEI
     )
@@ -670,6 +728,9 @@ def main():
         "trees": are_trees_right(),
         "trivia": are_trivia_right(),
         "long patterns": are_buffers_right(),
+        "many groups of one name": is_name_linear(),
+        "objects": are_objects_plain(),
+        "calls at once": are_calls_apart(),
         "formatted patterns": are_formatted_right(),
         "calls for engines": are_engine_calls_right(),
         "characters": are_ranges_right(),

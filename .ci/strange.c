@@ -16,6 +16,8 @@ static uint64_t draw(void) {
 
 static size_t below(size_t bound) { return (size_t)((draw() >> 11) % bound); }
 
+static uint32_t flags_drawn(void) { return (uint32_t)below(512); }
+
 /* A number that is small, near a size, or as large as there is. */
 static size_t number(size_t size) {
     switch (below(6)) {
@@ -162,7 +164,7 @@ fancy_result fancy_trivia_nonnull(const char *pattern, size_t length, uint32_t f
     *count = below(8) ? below(capacity + 1) : number(capacity);
     for (size_t i = 0; i < capacity; i++) {
         size_t start = below(length + 1);
-        fancy_trivium it = {start, start + below(length + 1 - start), 1 + (uint32_t)below(6), (uint32_t)below(512), (uint32_t)below(512)};
+        fancy_trivium it = {start, start + below(length + 1 - start), 1 + (uint32_t)below(6), flags_drawn(), flags_drawn()};
         trivia[i] = it;
     }
     switch (below(8)) {

@@ -6,9 +6,9 @@
  * docs/c.md says how to build and link the library, what is proved, and what the caller has to guarantee.
  *
  * A pattern is UTF-8 and need not be NUL-terminated. Lengths, sizes, positions and the capacities of text buffers are in
- * bytes; the capacities for nodes, names and back references are counts of items. A pointer may be null if its length or
- * capacity is 0, and a null buffer has capacity 0. Texts that are written are not NUL-terminated. They are UTF-8, except for
- * that of a FANCY_NODE_LITERAL_BYTES, which is any bytes.
+ * bytes; the capacities for nodes, names and back references are counts of items. A pointer to what is read may be null if its
+ * length is 0. A buffer may be null, and then has capacity 0. Texts that are written are not NUL-terminated. They are UTF-8,
+ * except for that of a FANCY_NODE_LITERAL_BYTES, which is any bytes.
  *
  * The library is built for Linux on x86-64-v2 with glibc, and a size_t has 64 bits. The static library needs no other library
  * than that of C. Calls may run in several threads at once. None may be made from a signal handler, or in the forked child of
@@ -187,7 +187,8 @@ enum fancy_precedence {
 /* How fancy_format lays out a pattern. */
 enum fancy_style {
     FANCY_STYLE_KEPT = 0,    /* its lines stay, with their indentation */
-    FANCY_STYLE_VERBOSE = 1, /* over several lines; the pattern begins with (?x) unless FANCY_FLAG_IGNORE_SPACE is set */
+    FANCY_STYLE_VERBOSE = 1, /* over several lines, unless it is one that fits; the pattern then begins with (?x) unless
+                                FANCY_FLAG_IGNORE_SPACE is set */
     FANCY_STYLE_COMPACT = 2  /* in one line: ignored whitespace, (?x) at the beginning and empty comments go, and # one becomes
                                 (?# one) */
 };
@@ -280,7 +281,7 @@ struct fancy_range {
 #define FANCY_MAX_TRIVIA(length) ((size_t)(length) + 1)
 
 /* Buffers for all that a pattern gives, with their capacities; what fancy_parse_into and fancy_parse_alloc say of it is at the
- * end. A pointer may be null if its capacity is 0. */
+ * end. A null pointer has capacity 0. */
 typedef struct fancy_buffers fancy_buffers;
 struct fancy_buffers {
     fancy_node *nodes;
@@ -336,7 +337,7 @@ fancy_result fancy_parse_decimal_nonnull(const char *text, size_t length, size_t
 
 /* ---- The functions to call. They are inline, and libfancy has them as symbols too, for callers without this header. Each that
  * takes flags returns UNKNOWN_FLAG if a bit is set that it does not take, whatever the pattern or the rows are. A style or a
- * precedence that does not exist is refused before that. */
+ * precedence that does not exist is refused before that. FANCY_INLINE is for the source of libfancy, which defines it as empty. */
 
 #ifndef FANCY_INLINE
 #define FANCY_INLINE static inline
@@ -490,10 +491,9 @@ FANCY_INLINE size_t fancy_group_name(const fancy_name *names, size_t name_count,
 }
 
 /* Writes a pattern that matches a text: under the flags, which are those that hold where it is put, it is parsed as a
- * FANCY_NODE_LITERAL for each character. What is written for a character is the same whatever stands beside it: a character with
- * a meaning of its own is after a backslash, and one that cannot be seen is its letter or its code. Returns OK or
- * BUFFER_TOO_SHORT, each with the size of the pattern; NOT_UTF8, OUT_OF_MEMORY or UNKNOWN_FLAG. Unless it returns OK, nothing is
- * written. */
+ * FANCY_NODE_LITERAL for each character. Each character is written the same whatever is beside it: one with a meaning of its own
+ * after a backslash, one that cannot be seen as an escape with a letter or a code. Returns OK or BUFFER_TOO_SHORT, each with the
+ * size of the pattern; NOT_UTF8, OUT_OF_MEMORY or UNKNOWN_FLAG. Unless it returns OK, nothing is written. */
 FANCY_INLINE fancy_result fancy_escape(const char *text, size_t length, uint32_t flags, char *buffer, size_t capacity) {
     char none;
     return fancy_escape_nonnull(text ? text : "", length, flags, buffer ? buffer : &none, buffer ? capacity : 0);
@@ -557,7 +557,8 @@ FANCY_INLINE fancy_result fancy_trivia(const char *pattern, size_t length, uint3
 /* Parses a pattern once, and writes all that it gives: what fancy_parse writes, with spans, and what fancy_trivia writes; or the
  * message of its error, as fancy_tree does. Sets info and trivium_count if it returns OK or BUFFER_TOO_SHORT, unless it is the
  * message that does not fit. Returns OK if everything fits. Returns BUFFER_TOO_SHORT if it does not: then no buffer is
- * written. Otherwise it returns what fancy_tree returns; FANCY_FLAG_WITHOUT_SPANS is not taken. */
+ * written. Otherwise it returns what fancy_tree returns; FANCY_FLAG_WITHOUT_SPANS is not taken. If it returns REFUSED, only
+ * texts is written: rows from before have lost their texts. */
 FANCY_INLINE fancy_result fancy_parse_into(const char *pattern, size_t length, uint32_t flags, fancy_buffers *buffers) {
     fancy_node no_node;
     char no_text;
@@ -574,12 +575,14 @@ FANCY_INLINE fancy_result fancy_parse_into(const char *pattern, size_t length, u
 }
 
 /* Does the same with buffers that it allocates by malloc, and sets *buffers, which is not read. It parses the pattern once, or
- * twice if a buffer of the usual size is too short. After OK the buffers hold what fancy_parse_into writes, and after REFUSED
- * texts holds the message. Then fancy_buffers_free has to be called. After any other status, which is never BUFFER_TOO_SHORT,
- * *buffers is all zero. */
+ * twice if a buffer of the usual size is too short. After OK the buffers hold what fancy_parse_into writes. After REFUSED texts
+ * holds the message, and info and trivium_count are zero. Then fancy_buffers_free has to be called. After any other status,
+ * which is never BUFFER_TOO_SHORT, *buffers is all zero. The buffers are in one block of memory: fancy_parse_into may write to
+ * them again, but none of them can be passed to realloc or free. */
 fancy_result fancy_parse_alloc(const char *pattern, size_t length, uint32_t flags, fancy_buffers *buffers);
 
-/* Frees the buffers that fancy_parse_alloc allocated, and sets *buffers to zero. To call it again, or on zeros, does nothing. */
+/* Frees the buffers that fancy_parse_alloc allocated, but no others, and sets *buffers to zero. To call it again, or on zeros,
+ * does nothing. */
 void fancy_buffers_free(fancy_buffers *buffers);
 
 /* Returns the message of a kind of error, ending with NUL, as a constant: what fancy_error_text writes. In the message of an

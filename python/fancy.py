@@ -31,17 +31,19 @@ from __future__ import annotations
 
 import argparse
 import bisect
+import collections
 import ctypes
 import ctypes.util
 import enum
-import itertools
+import functools
 import operator
 import os
 import re
+import struct
 import sys
 import warnings
 from dataclasses import dataclass, field
-from typing import ClassVar, Dict, Iterator, List, Mapping, Optional, Sequence, Set, Tuple, Type, TypeVar, Union
+from typing import Callable, ClassVar, Deque, Dict, Iterator, List, Mapping, Optional, Sequence, Tuple, Type, TypeVar, Union
 
 __all__ = [
     "Error", "Node", "Pattern", "Ranges", "Relative", "Span", "Tree", "Trivium", "check", "class_ranges", "escape", "format",
@@ -52,7 +54,8 @@ Pattern = Union[str, bytes]
 Span = Tuple[int, int]
 Ranges = List[Tuple[int, int]]
 _Kind = TypeVar("_Kind", bound=enum.IntEnum)
-_Array = TypeVar("_Array")
+_Item = TypeVar("_Item")
+_Fields = Dict[str, object]
 
 
 # ---- flags, and kinds of things. The numbers are those of fancy.h.
@@ -198,7 +201,7 @@ class Style(enum.IntEnum):
     """How `format` lays out a pattern that it keeps as it is written."""
 
     KEPT = 0  #: its lines stay, with their indentation
-    VERBOSE = 1  #: over several lines; the pattern begins with `(?x)` unless `IGNORE_SPACE` is set
+    VERBOSE = 1  #: over several lines, unless it is one that fits; the pattern then begins with `(?x)` unless `IGNORE_SPACE` is set
     COMPACT = 2  #: in one line: ignored whitespace, `(?x)` at the beginning and empty comments go, and `# one` becomes `(?# one)`
 # ---- end of numbers
 
@@ -268,10 +271,10 @@ class Node:
         [None, '(?:b|c)*']
         """
         rows, number = _Rows(self), _member(Precedence, precedence)
-        got, text = _text("fancy_print_nodes", *rows.arguments(), number)
+        got, text = _text(_library.fancy_print_nodes, *rows.arguments(), number)
         if got.status == _OUT_OF_MEMORY:
             raise MemoryError
-        return text.decode() if got.status == _OK else None
+        return text if got.status == _OK else None
 
     def character_ranges(self, flags: int = UNICODE) -> Optional[Ranges]:
         """Returns the characters that this node matches, as the function `class_ranges` does for a class; or None unless it is a
@@ -285,7 +288,7 @@ class Node:
         if not isinstance(self, (Any, Literal, Delegate)):
             return None
         nodes, _, texts, size, _ = _Rows(self).arguments()
-        return source.ranges("fancy_node_ranges", nodes, texts, size, int(source.flags))
+        return source.ranges(_library.fancy_node_ranges, nodes, texts, size, int(source.flags))
 
     def walk(self) -> Iterator[Node]:
         """The node and its descendants in preorder: each before its children, these in the order of the pattern."""
@@ -542,9 +545,6 @@ class AstNode(Node):
 # ---- end of nodes
 
 
-_KINDS: Dict[int, Type[Node]] = {kind.number: kind for kind in Node.__subclasses__()}
-
-
 @dataclass(frozen=True)
 class Relative:
     """A relative number of a group, in an unresolved call."""
@@ -614,11 +614,11 @@ class Tree:
             numeric_capture_group_references=self.numeric_capture_group_references, self_recursive=self.self_recursive
         )
         got, text = _text(
-            "fancy_to_pattern_nodes", *rows.arguments(), names, len(names), ctypes.byref(info), int(flags)
+            _library.fancy_to_pattern_nodes, *rows.arguments(), names, len(names), ctypes.byref(info), int(flags)
         )
         if got.status == _OUT_OF_MEMORY:
             raise MemoryError
-        return text.decode() if got.status == _OK else None
+        return text if got.status == _OK else None
 
     def format(self) -> Optional[str]:
         """Deprecated: the old name of `to_pattern`, which the next major version does not have."""
@@ -766,6 +766,43 @@ _MAJOR, _MINOR = 2, 1
 
 
 _UNBOUNDED = 2**64 - 1  #: `SIZE_MAX`
+_ITEMS, _BYTES = 1024, 2**16  #: few patterns need more rows of a kind, or longer texts
+
+
+class _Buffers(ctypes.Structure):
+    """What the library writes into: the struct `fancy_buffers`, and its arrays as Python reads them."""
+
+    info: _Info
+    trivium_count: int
+    _fields_ = [
+        ("nodes", ctypes.c_void_p),
+        ("node_capacity", ctypes.c_size_t),
+        ("texts", ctypes.c_void_p),
+        ("texts_capacity", ctypes.c_size_t),
+        ("names", ctypes.c_void_p),
+        ("name_capacity", ctypes.c_size_t),
+        ("backrefs", ctypes.c_void_p),
+        ("backref_capacity", ctypes.c_size_t),
+        ("trivia", ctypes.c_void_p),
+        ("trivium_capacity", ctypes.c_size_t),
+        ("info", _Info),
+        ("trivium_count", ctypes.c_size_t),
+    ]
+
+    def __init__(
+        self, nodes: int = _ITEMS, texts: int = _BYTES, names: int = _ITEMS, backrefs: int = _ITEMS, trivia: int = _ITEMS
+    ) -> None:
+        rows, text, named = (_Node * nodes)(), (ctypes.c_char * texts)(), (_Name * names)()
+        groups, parts = (ctypes.c_size_t * backrefs)(), (_Trivium * trivia)()
+        super().__init__(
+            ctypes.addressof(rows), nodes, ctypes.addressof(text), texts, ctypes.addressof(named), names,
+            ctypes.addressof(groups), backrefs, ctypes.addressof(parts), trivia,
+        )  # fmt: skip
+        self.of_nodes, self.of_texts, self.of_names = memoryview(rows), memoryview(text), memoryview(named)
+        self.of_backrefs, self.of_trivia, self.count = groups, memoryview(parts), ctypes.c_size_t()
+        # the last arguments of a call that writes a text, and of one that writes trivia
+        self.for_text = ctypes.c_void_p(self.texts), ctypes.c_size_t(texts)
+        self.for_trivia = ctypes.c_void_p(self.trivia), ctypes.c_size_t(trivia), self.count
 
 
 def _file() -> str:
@@ -799,6 +836,7 @@ def _load() -> ctypes.CDLL:
         "fancy_to_pattern": pattern + buffer,
         "fancy_format": pattern + [ctypes.c_uint32, ctypes.c_size_t] + buffer,
         "fancy_tree": pattern + 4 * buffer + [ctypes.POINTER(_Info)],
+        "fancy_parse_into": pattern + [ctypes.POINTER(_Buffers)],
         "fancy_print_nodes": rows + [ctypes.c_uint32] + buffer,
         "fancy_trivia": pattern + buffer + [ctypes.POINTER(ctypes.c_size_t)],
         "fancy_to_pattern_nodes": rows + buffer + [ctypes.POINTER(_Info), ctypes.c_uint32] + buffer,
@@ -838,49 +876,87 @@ def _version() -> str:
 __version__ = _version()  #: of the library
 
 
-def _called(name: str, *arguments: object) -> _Result:
-    """What a call of the library returns."""
-    result: _Result = getattr(_library, name)(*arguments)
-    return result
+_Call = Callable[..., _Result]
+
+# A call takes buffers from here, and puts them back when it has copied what is in them. So no two calls have the same, be they of
+# several threads, or one of a signal handler within the other. If there are more, the oldest are dropped.
+_KEPT: Deque[_Buffers] = collections.deque(maxlen=16)
 
 
-_ARRAYS: Set[type] = set()  #: the types of all first buffers, so that ctypes does not make them anew
-
-
-def _first(array: Type[_Array]) -> _Array:
-    """A first buffer for a call. If it is too short, the call says what it needs, and is made once more. No buffer is kept."""
-    _ARRAYS.add(array)
-    return array()
-
-
-def _capacity(count: int, most: int = 1024) -> int:
-    """The capacity of a first buffer for so many items. It is one of a few, for each of which there is a type."""
-    return min(1 << max(count - 1, 31).bit_length(), most)
-
-
-_SHORT, _FEW_TRIVIA = ctypes.c_char * 256, _Trivium * 64
-
-
-def _text(name: str, *arguments: object, size: int = 256) -> Tuple[_Result, bytes]:
-    """What a call returns, and the text that it writes, of about this size, into a buffer: its last two arguments."""
-    buffer = _SHORT() if size <= 256 else _first(ctypes.c_char * _capacity(size, 2**16))
-    while True:
-        got = _called(name, *arguments, buffer, len(buffer))
-        if got.status != _BUFFER_TOO_SHORT:
-            return got, buffer.raw[: got.size]
-        buffer = (ctypes.c_char * got.size)()
-
-
-def _member_of(kind: Type[_Kind], number: int) -> _Kind:
-    """The member of an enum whose number the library wrote. A library that is newer may have more."""
+def _taken() -> _Buffers:
+    """Buffers for a call, which puts them back into `_KEPT`."""
     try:
-        return kind(number)
-    except ValueError:
-        raise _unknown(kind.__name__, number) from None
+        return _KEPT.pop()
+    except IndexError:
+        return _Buffers()
+
+
+def _text(call: _Call, *arguments: object) -> Tuple[_Result, str]:
+    """What a call returns, and the text that it writes into a buffer: its last two arguments."""
+    kept = buffers = _taken()
+    try:
+        got = call(*arguments, *buffers.for_text)
+        status = got.status
+        while status == _BUFFER_TOO_SHORT:
+            buffers = _Buffers(0, got.size, 0, 0, 0)
+            got = call(*arguments, *buffers.for_text)
+            status = got.status
+        is_written = status == _OK or status == _REFUSED
+        return got, str(buffers.of_texts[: got.size], "utf-8") if is_written else ""
+    finally:
+        _KEPT.append(kept)
+
+
+_LETTERS_OF: Dict[object, str] = {ctypes.c_uint32: "I", ctypes.c_size_t: "Q", ctypes.c_ssize_t: "q", ctypes.c_bool: "?"}
+
+
+def _reader(structure: Type[ctypes.Structure], *names: str) -> struct.Struct:
+    """What reads these fields of a struct at once. They are in the order of the struct, and the others are skipped."""
+    types = {name: _LETTERS_OF[kind] for name, kind, *_ in structure._fields_}
+    letters, at = "=", 0
+    for name in names:
+        place = getattr(structure, name)
+        letters += f"{place.offset - at}x{types[name]}"
+        at = place.offset + place.size
+    return struct.Struct(f"{letters}{ctypes.sizeof(structure) - at}x")
+
+
+def _made(kind: Type[_Item], fields: _Fields) -> _Item:
+    """An object of a frozen dataclass. Its `__init__` would set each field by a call, which took most of the time of `parse`."""
+    it = object.__new__(kind)
+    object.__setattr__(it, "__dict__", fields)
+    return it
 
 
 def _unknown(what: str, number: int) -> RuntimeError:
     return RuntimeError(f"libfancy {__version__} has the {what} {number}, which this module does not know")
+
+
+class _Known(Dict[int, _Item]):
+    """What each number means that the library writes. A library that is newer may have more numbers."""
+
+    def __init__(self, what: str, items: Mapping[int, _Item]) -> None:
+        super().__init__(items)
+        self.what = what
+
+    def __missing__(self, number: int) -> _Item:
+        raise _unknown(self.what, number)
+
+
+def _members(kind: Type[_Kind]) -> _Known[_Kind]:
+    """The members of an enum by their numbers."""
+    return _Known(kind.__name__, {int(it): it for it in kind})
+
+
+_ERRORS, _ASSERTIONS, _LOOKS, _VERBS = _members(ErrorKind), _members(AssertionKind), _members(LookKind), _members(VerbKind)
+_ABSENTS, _TRIVIUMS = _members(AbsentKind), _members(TriviumKind)
+_WITH_FLAGS = TriviumKind.INLINE_FLAGS, TriviumKind.OPENING
+
+
+@functools.lru_cache(maxsize=None)
+def _flag(number: int) -> Flag:
+    """The flags of a number, for which `Flag` itself takes longer."""
+    return Flag(number)
 
 
 # ---- what a caller passes. ctypes cuts a number that is too large, so each is looked at before.
@@ -892,6 +968,8 @@ _OF_RE = {re.IGNORECASE: CASEI, re.MULTILINE: MULTI, re.DOTALL: DOTNL, re.VERBOS
 
 def _flags_given(flags: int) -> Flag:
     """The flags of a call: members of `Flag`, or a number with no other bits. The flags of `re` have other numbers."""
+    if type(flags) is Flag and not int(flags) & ~_EVERY_FLAG:
+        return flags
     if isinstance(flags, re.RegexFlag):
         own = [flag for bit, flag in _OF_RE.items() if flags & bit] + [UNICODE] * (not flags & re.ASCII)
         names = " | ".join(f"fancy.{flag.name}" for flag in own) or "fancy.Flag(0)"
@@ -901,12 +979,14 @@ def _flags_given(flags: int) -> Flag:
     number = operator.index(flags)
     if number & ~_EVERY_FLAG:
         raise ValueError(f"flags {number:#x} have bits that are no fancy.Flag")
-    return Flag(number)
+    return _flag(number)
 
 
 def _member(kind: Type[_Kind], value: int) -> _Kind:
     """The member of an enum that was passed, as itself or as its number. That of another enum is a mistake."""
-    if isinstance(value, enum.Enum) and not isinstance(value, kind):
+    if isinstance(value, kind):
+        return value
+    if isinstance(value, enum.Enum):
         raise TypeError(f"{value!r} is no fancy.{kind.__name__}")
     return kind(value)
 
@@ -928,134 +1008,214 @@ class _Source:
     """A pattern as the library takes it, and its positions."""
 
     def __init__(self, pattern: Pattern, flags: int) -> None:
-        if not isinstance(pattern, (str, bytes)):
+        if isinstance(pattern, str):
+            # a lone surrogate is handed on, to be refused as what is not UTF-8
+            text = pattern.encode("utf-8", "surrogatepass")
+        elif isinstance(pattern, bytes):
+            text = pattern
+        else:
             raise TypeError(f"a pattern is str or bytes, not {type(pattern).__name__}")
-        self.pattern, self.flags = pattern, _flags_given(flags)
-        # a lone surrogate is handed on, to be refused as what is not UTF-8
-        self.bytes = pattern.encode("utf-8", "surrogatepass") if isinstance(pattern, str) else pattern
-        self.arguments = (self.bytes, len(self.bytes), int(self.flags))
-        self._starts: Optional[List[int]] = None
-        if isinstance(pattern, str) and len(self.bytes) != len(pattern):
-            sizes = (len(character.encode("utf-8", "surrogatepass")) for character in pattern)
-            self._starts = list(itertools.accumulate(sizes, initial=0))
+        self.pattern, self.bytes = pattern, text
+        self.flags = UNICODE if flags is UNICODE else _flags_given(flags)
+        self.arguments = text, len(text), self.flags
+        self._starts: List[int] = []
+
+    def counts_bytes(self) -> bool:
+        """Whether each byte offset is an index into the pattern."""
+        return len(self.bytes) == len(self.pattern)
+
+    def starts(self) -> List[int]:
+        """The byte offset of each character, and of the end."""
+        if not self._starts:
+            # the other bytes of a character begin with the bits 10
+            self._starts = [*(at for at, byte in enumerate(self.bytes) if byte >> 6 != 0b10), len(self.bytes)]
+        return self._starts
 
     def index(self, offset: int) -> int:
         """The index into the pattern of a byte offset, which may be one past the end."""
-        if self._starts is None:
+        if self.counts_bytes():
             return offset
         past = max(offset - len(self.bytes), 0)
-        return bisect.bisect_left(self._starts, offset - past) + past
+        return bisect.bisect_left(self.starts(), offset - past) + past
 
-    def span(self, node: Union[_Node, _Trivium]) -> Span:
-        return self.index(node.start), self.index(node.stop)
+    def span(self, byte_span: Span) -> Span:
+        """A span of bytes as one of the pattern."""
+        if self.counts_bytes():
+            return byte_span
+        start, stop = byte_span
+        return self.index(start), self.index(stop)
 
-    def trivium(self, row: _Trivium) -> Trivium:
-        kind = _member_of(TriviumKind, row.kind)
-        has_flags = kind in (TriviumKind.INLINE_FLAGS, TriviumKind.OPENING)
-        before, after = (Flag(row.flags_before), Flag(row.flags_after)) if has_flags else (None, None)
-        return Trivium(kind, self.span(row), (row.start, row.stop), before, after)
+    def trivium(self, start: int, stop: int, number: int, before: int, after: int) -> Trivium:
+        """The trivium of a row."""
+        kind, byte_span = _TRIVIUMS[number], (start, stop)
+        has_flags = kind in _WITH_FLAGS
+        fields: _Fields = {
+            "kind": kind,
+            "span": self.span(byte_span),
+            "byte_span": byte_span,
+            "flags_before": _flag(before) if has_flags else None,
+            "flags_after": _flag(after) if has_flags else None,
+        }
+        return _made(Trivium, fields)
 
     def error(self, got: _Result, message: str) -> Error:
-        kind = _member_of(ErrorKind, got.kind)
+        kind = _ERRORS[got.kind]
         return Error(self.pattern, kind, message, self.index(got.position), got.position)
 
     def refusal(self) -> Optional[Error]:
         """The error of the pattern, if it has one."""
-        got, message = _text("fancy_message", *self.arguments)
+        got, message = _text(_library.fancy_message, *self.arguments)
         if got.status == _OK:
             return None
         if got.status == _OUT_OF_MEMORY:
             raise MemoryError
-        return self.error(got, message.decode() if got.status == _REFUSED else ErrorKind.NOT_UTF8.text)
+        return self.error(got, message if got.status == _REFUSED else ErrorKind.NOT_UTF8.text)
 
-    def text(self, name: str, *arguments: object) -> Tuple[int, str]:
+    def text(self, call: _Call, *arguments: object) -> Tuple[int, str]:
         """The status of a call, and the text that it writes. Raises the error of a pattern that is not valid."""
-        got, text = _text(name, *self.arguments, *arguments, size=2 * len(self.bytes) + 128)
-        if got.status == _OUT_OF_MEMORY:
+        got, text = _text(call, *self.arguments, *arguments)
+        status = got.status
+        if status == _OUT_OF_MEMORY:
             raise MemoryError
-        if got.status in (_REFUSED, _NOT_UTF8):
+        if status in (_REFUSED, _NOT_UTF8):
             raise self.refusal() or AssertionError
-        return got.status, text.decode()
+        return status, text
 
-    def ranges(self, name: str, *arguments: object) -> Optional[Ranges]:
+    def ranges(self, call: _Call, *arguments: object) -> Optional[Ranges]:
         """The ranges that a call writes; None if what it is called for does not match exactly one character."""
         count, capacity = ctypes.c_size_t(), 64
         while True:
             rows = (_Range * capacity)()
-            got = _called(name, *arguments, rows, capacity, ctypes.byref(count))
+            got = call(*arguments, rows, capacity, ctypes.byref(count))
             if got.status != _BUFFER_TOO_SHORT:
                 break
             capacity = count.value
         if got.status == _OUT_OF_MEMORY:
             raise MemoryError
         if got.status == _REFUSED:
-            raise self.error(got, _member_of(ErrorKind, got.kind).text)
+            raise self.error(got, _ERRORS[got.kind].text)
         if got.status == _NOT_UTF8:
             raise self.refusal() or AssertionError
         return [(row.first, row.last) for row in rows[: count.value]] if got.status == _OK else None
 
 
-class _Builder:
-    """Makes the nodes of a tree from the rows that the library writes."""
+# what reads the fields of a row that each node needs, and those that some kinds need
+_ROW = _reader(_Node, "kind", "end", "start", "stop")
+_ANY = _reader(_Node, "newline", "crlf").unpack_from
+_ASSERTION = _reader(_Node, "which", "crlf").unpack_from
+_NEWLINE = _reader(_Node, "unicode").unpack_from
+_TEXT = _reader(_Node, "text", "text_size", "casei").unpack_from
+_GROUP = _reader(_Node, "group").unpack_from
+_WHICH = _reader(_Node, "which").unpack_from
+_REPEAT = _reader(_Node, "lo", "hi", "greedy").unpack_from
+_REFERENCE = _reader(_Node, "group", "level", "casei", "has_level").unpack_from
+_CALL = _reader(_Node, "which", "text", "text_size", "group", "level", "position").unpack_from
+_NAME = _reader(_Name, "text", "text_size", "group")
+_TRIVIUM = _reader(_Trivium, "start", "stop", "kind", "flags_before", "flags_after")
 
-    def __init__(self, source: _Source, rows: Sequence[_Node], texts: bytes, names: Dict[int, str]) -> None:
+
+class _Builder:
+    """Makes the nodes of a tree from a copy of the rows that the library writes."""
+
+    def __init__(self, source: _Source, rows: bytes, texts: bytes, names: Dict[int, str]) -> None:
         self.source, self.rows, self.texts, self.names = source, rows, texts, names
 
     def root(self) -> Node:
         """The node of the first row, with all the others below it."""
         apart: List[Tuple[int, Node]] = []  # nodes without a parent as yet, with their indices, the first on top
-        for at in range(len(self.rows) - 1, -1, -1):
-            row = self.rows[at]
-            children: List[Node] = []
-            while apart and apart[-1][0] < row.end:
-                children.append(apart.pop()[1])
-            kind = _KINDS.get(row.kind)
-            if kind is None:
-                raise _unknown("kind of node", row.kind)
-            fields = self.fields(row, kind)
-            apart.append((at, kind(self.source.span(row), (row.start, row.stop), tuple(children), *fields)))
+        at, counts_bytes = len(self.rows) // _ROW.size, self.source.counts_bytes()
+        for number, end, start, stop in reversed(list(_ROW.iter_unpack(self.rows))):
+            at -= 1
+            kind, add = _KINDS[number]
+            span = start, stop
+            fields: _Fields = {
+                "span": span if counts_bytes else self.source.span(span),
+                "byte_span": span,
+                "children": _before(apart, end) if end > at + 1 else (),
+            }
+            if add is not None:
+                add(self, fields, at * _ROW.size)
+            apart.append((at, _made(kind, fields)))
         return apart[0][1]
 
-    def fields(self, row: _Node, kind: Type[Node]) -> Tuple[object, ...]:
-        """The fields that a node has beside those of each, in order."""
-        text = self.texts[row.text : row.text + row.text_size]
-        if kind is Group:
-            return row.group, self.names.get(row.group)
-        if kind in (Literal, Delegate):
-            return text.decode(), row.casei
-        if kind is LiteralBytes:
-            return (text,)
-        if kind is Repeat:
-            return row.lo, None if row.hi == _UNBOUNDED else row.hi, row.greedy
-        if kind is Any:
-            return row.newline, row.crlf
-        if kind is Assertion:
-            return _member_of(AssertionKind, row.which), row.crlf
-        if kind is GeneralNewline:
-            return (row.unicode,)
-        if kind in _WHICH:
-            return (_member_of(_WHICH[kind], row.which),)
-        if kind is Backref:
-            return row.group, row.casei
-        if kind is BackrefAtLevel:
-            return row.group, row.level, row.casei
-        if kind is BackrefExistsCondition:
-            return row.group, row.level if row.has_level else None
-        if kind is SubroutineCall:
-            return (row.group,)
-        if kind is AstNode:
-            return self.target(row, text), self.source.index(row.position), row.position
-        return ()
+    # each of these adds the fields that nodes of a kind have beside those of each, from the row at an offset
 
-    def target(self, row: _Node, text: bytes) -> Union[int, str, Relative]:
-        """What an unresolved call names."""
-        if row.which == _BY_NUMBER:
-            return row.group
-        if row.which == _BY_NAME:
-            return text.decode()
-        if row.which == _RELATIVE:
-            return Relative(row.level)
-        raise _unknown("kind of target", row.which)
+    def any(self, fields: _Fields, row: int) -> None:
+        fields["newline"], fields["crlf"] = _ANY(self.rows, row)
+
+    def assertion(self, fields: _Fields, row: int) -> None:
+        which, fields["crlf"] = _ASSERTION(self.rows, row)
+        fields["which"] = _ASSERTIONS[which]
+
+    def newline(self, fields: _Fields, row: int) -> None:
+        (fields["unicode"],) = _NEWLINE(self.rows, row)
+
+    def text(self, fields: _Fields, row: int) -> None:
+        start, size, fields["casei"] = _TEXT(self.rows, row)
+        fields["text"] = self.texts[start : start + size].decode()
+
+    def value(self, fields: _Fields, row: int) -> None:
+        start, size, _ = _TEXT(self.rows, row)
+        fields["value"] = self.texts[start : start + size]
+
+    def group(self, fields: _Fields, row: int) -> None:
+        (number,) = _GROUP(self.rows, row)
+        fields["group"], fields["name"] = number, self.names.get(number)
+
+    def look(self, fields: _Fields, row: int) -> None:
+        fields["which"] = _LOOKS[_WHICH(self.rows, row)[0]]
+
+    def verb(self, fields: _Fields, row: int) -> None:
+        fields["which"] = _VERBS[_WHICH(self.rows, row)[0]]
+
+    def absent(self, fields: _Fields, row: int) -> None:
+        fields["which"] = _ABSENTS[_WHICH(self.rows, row)[0]]
+
+    def repeat(self, fields: _Fields, row: int) -> None:
+        fields["lo"], hi, fields["greedy"] = _REPEAT(self.rows, row)
+        fields["hi"] = None if hi == _UNBOUNDED else hi
+
+    def backref(self, fields: _Fields, row: int) -> None:
+        fields["group"], _, fields["casei"], _ = _REFERENCE(self.rows, row)
+
+    def backref_at_level(self, fields: _Fields, row: int) -> None:
+        fields["group"], fields["level"], fields["casei"], _ = _REFERENCE(self.rows, row)
+
+    def condition(self, fields: _Fields, row: int) -> None:
+        fields["group"], level, _, has_level = _REFERENCE(self.rows, row)
+        fields["level"] = level if has_level else None
+
+    def call(self, fields: _Fields, row: int) -> None:
+        (fields["group"],) = _GROUP(self.rows, row)
+
+    def unresolved(self, fields: _Fields, row: int) -> None:
+        which, start, size, group, level, position = _CALL(self.rows, row)
+        if which == _BY_NUMBER:
+            fields["target"] = group
+        elif which == _BY_NAME:
+            fields["target"] = self.texts[start : start + size].decode()
+        elif which == _RELATIVE:
+            fields["target"] = Relative(level)
+        else:
+            raise _unknown("kind of target", which)
+        fields["position"], fields["byte_position"] = self.source.index(position), position
+
+
+_ADDING: Dict[Type[Node], Callable[[_Builder, _Fields, int], None]] = {
+    Any: _Builder.any, Assertion: _Builder.assertion, GeneralNewline: _Builder.newline, Literal: _Builder.text,
+    LiteralBytes: _Builder.value, Group: _Builder.group, LookAround: _Builder.look, Repeat: _Builder.repeat, Delegate: _Builder.text,
+    Backref: _Builder.backref, BackrefAtLevel: _Builder.backref_at_level, BackrefExistsCondition: _Builder.condition,
+    SubroutineCall: _Builder.call, Verb: _Builder.verb, Absent: _Builder.absent, AstNode: _Builder.unresolved,
+}  # fmt: skip
+_KINDS = _Known("kind of node", {kind.number: (kind, _ADDING.get(kind)) for kind in Node.__subclasses__()})
+
+
+def _before(apart: List[Tuple[int, Node]], end: int) -> Tuple[Node, ...]:
+    """Takes the nodes from the top of `apart` whose indices are below `end`."""
+    nodes: List[Node] = []
+    while apart and apart[-1][0] < end:
+        nodes.append(apart.pop()[1])
+    return tuple(nodes)
 
 
 class _Rows:
@@ -1124,15 +1284,61 @@ class _Rows:
         return row
 
 
-_WHICH: Dict[Type[Node], Type[enum.IntEnum]] = {LookAround: LookKind, Verb: VerbKind, Absent: AbsentKind}
+def _named_groups(names: bytes, texts: bytes) -> Dict[str, Tuple[int, ...]]:
+    named: Dict[str, List[int]] = {}
+    for start, size, group in _NAME.iter_unpack(names):
+        named.setdefault(texts[start : start + size].decode(), []).append(group)
+    return {name: tuple(numbers) for name, numbers in named.items()}
 
 
-def _named_groups(names: Sequence[_Name], texts: bytes) -> Dict[str, Tuple[int, ...]]:
-    named: Dict[str, Tuple[int, ...]] = {}
-    for row in names:
-        name = texts[row.text : row.text + row.text_size].decode()
-        named[name] = (*named.get(name, ()), row.group)
-    return named
+_INFO = _reader(_Info, *(it[0] for it in _Info._fields_)).unpack_from
+
+
+def _tree(source: _Source, buffers: _Buffers) -> Tree:
+    """The tree of a valid pattern, whose rows are in the buffers."""
+    (
+        node_count, texts_size, name_count, backref_count, total_groups, out_of_range, has_out_of_range, by_numbers, has_calls,
+        is_recursive, is_ignored,
+    ) = _INFO(buffers, _Buffers.info.offset)  # fmt: skip
+    texts = bytes(buffers.of_texts[:texts_size])
+    named = _named_groups(bytes(buffers.of_names[:name_count]), texts)
+    names = {number: name for name, numbers in named.items() for number in numbers}
+    fields: _Fields = {
+        "pattern": source.pattern,
+        "flags": source.flags,
+        "root": _Builder(source, bytes(buffers.of_nodes[:node_count]), texts, names).root(),
+        "total_groups": total_groups,
+        "named_groups": named,
+        "backrefs": tuple(buffers.of_backrefs[:backref_count]),
+        "numeric_capture_group_references": by_numbers,
+        "contains_subroutines": has_calls,
+        "self_recursive": is_recursive,
+        "out_of_range_backref": out_of_range if has_out_of_range else None,
+        "numbered_groups_ignored": is_ignored,
+    }
+    return _made(Tree, fields)
+
+
+def _parsed(source: _Source, buffers: _Buffers) -> Tree:
+    """The tree of a pattern, which the library writes into the buffers; if they are too short, into others."""
+    got: _Result = _library.fancy_parse_into(*source.arguments, buffers)
+    while got.status == _BUFFER_TOO_SHORT:
+        if got.size:  # it is the message that is too long
+            buffers = _Buffers(0, got.size, 0, 0, 0)
+        else:
+            info = buffers.info
+            buffers = _Buffers(
+                info.node_count, info.texts_size, info.name_count, info.backref_count, buffers.trivium_count
+            )
+        got = _library.fancy_parse_into(*source.arguments, buffers)
+    status = got.status
+    if status == _OUT_OF_MEMORY:
+        raise MemoryError
+    if status == _REFUSED:
+        raise source.error(got, str(buffers.of_texts[: got.size], "utf-8"))
+    if status != _OK:
+        raise source.refusal() or AssertionError
+    return _tree(source, buffers)
 
 
 # ---- what a caller calls
@@ -1140,40 +1346,11 @@ def _named_groups(names: Sequence[_Name], texts: bytes) -> Dict[str, Tuple[int, 
 
 def parse(pattern: Pattern, flags: int = UNICODE) -> Tree:
     """Parses a pattern. Raises `Error` if it is invalid."""
-    source, info = _Source(pattern, flags), _Info()
-    length = len(source.bytes)
-    # few patterns of this length have more nodes or longer texts
-    nodes, names = _first(_Node * _capacity(length + length // 3 + 2)), _first(_Name * _capacity(0))
-    texts, backrefs = _first(ctypes.c_char * _capacity(length + 128, 2**16)), _first(ctypes.c_size_t * _capacity(0))
-    while True:
-        buffers = (nodes, len(nodes), texts, len(texts), names, len(names), backrefs, len(backrefs))
-        got = _called("fancy_tree", *source.arguments, *buffers, ctypes.byref(info))
-        if got.status != _BUFFER_TOO_SHORT:
-            break
-        nodes, names = (_Node * info.node_count)(), (_Name * info.name_count)()
-        texts, backrefs = (ctypes.c_char * max(info.texts_size, got.size))(), (ctypes.c_size_t * info.backref_count)()
-    if got.status == _OUT_OF_MEMORY:
-        raise MemoryError
-    if got.status == _REFUSED:
-        raise source.error(got, texts.raw[: got.size].decode())
-    if got.status != _OK:
-        raise source.refusal() or AssertionError
-    written = texts.raw[: info.texts_size]
-    named = _named_groups(names[: info.name_count], written)
-    by_number = {number: name for name, numbers in named.items() for number in numbers}
-    return Tree(
-        pattern=pattern,
-        flags=source.flags,
-        root=_Builder(source, nodes[: info.node_count], written, by_number).root(),
-        total_groups=info.total_groups,
-        named_groups=named,
-        backrefs=tuple(backrefs[: info.backref_count]),
-        numeric_capture_group_references=info.numeric_capture_group_references,
-        contains_subroutines=info.contains_subroutines,
-        self_recursive=info.self_recursive,
-        out_of_range_backref=info.out_of_range_backref if info.has_out_of_range_backref else None,
-        numbered_groups_ignored=info.numbered_groups_ignored,
-    )
+    source, buffers = _Source(pattern, flags), _taken()
+    try:
+        return _parsed(source, buffers)
+    finally:
+        _KEPT.append(buffers)
 
 
 def trivia(pattern: Pattern, flags: int = UNICODE) -> Tuple[Trivium, ...]:
@@ -1184,27 +1361,29 @@ def trivia(pattern: Pattern, flags: int = UNICODE) -> Tuple[Trivium, ...]:
     >>> [(it.kind.name, it.span) for it in trivia("(?i)a(?# b)(?:c)")]
     [('INLINE_FLAGS', (0, 4)), ('COMMENT', (5, 11)), ('OPENING', (11, 14)), ('CLOSING', (15, 16))]
     """
-    source, count = _Source(pattern, flags), ctypes.c_size_t()
-    if len(source.bytes) <= 64:
-        rows = _FEW_TRIVIA()
-    else:
-        # each trivium begins with another one of these, but for a few that leave nothing in the tree
-        rows = _first(_Trivium * _capacity(sum(map(source.bytes.count, (b"(", b")", b"#")))))
-    while True:
-        got = _called("fancy_trivia", *source.arguments, rows, len(rows), ctypes.byref(count))
-        if got.status != _BUFFER_TOO_SHORT:
-            break
-        rows = (_Trivium * count.value)()
-    if got.status == _OUT_OF_MEMORY:
+    source, kept = _Source(pattern, flags), _taken()
+    buffers = kept
+    try:
+        got: _Result = _library.fancy_trivia(*source.arguments, *buffers.for_trivia)
+        while got.status == _BUFFER_TOO_SHORT:
+            buffers = _Buffers(0, 0, 0, 0, buffers.count.value)
+            got = _library.fancy_trivia(*source.arguments, *buffers.for_trivia)
+        status = got.status
+        rows = bytes(buffers.of_trivia[: buffers.count.value]) if status == _OK else b""
+    finally:
+        _KEPT.append(kept)
+    if status == _OUT_OF_MEMORY:
         raise MemoryError
-    if got.status != _OK:
+    if status != _OK:
         raise source.refusal() or AssertionError
-    return tuple(source.trivium(row) for row in rows[: count.value])
+    return tuple([source.trivium(*row) for row in _TRIVIUM.iter_unpack(rows)])
 
 
 def check(pattern: Pattern, flags: int = UNICODE) -> Optional[Error]:
     """Returns the error of a pattern, or None if the pattern is valid. It does not raise the error."""
-    return _Source(pattern, flags).refusal()
+    source = _Source(pattern, flags)
+    got: _Result = _library.fancy_check(*source.arguments)
+    return None if got.status == _OK else source.refusal()
 
 
 def is_resolved(pattern: Pattern, flags: int = UNICODE) -> bool:
@@ -1216,7 +1395,7 @@ def is_resolved(pattern: Pattern, flags: int = UNICODE) -> bool:
     [True, False, False]
     """
     source = _Source(pattern, flags)
-    got = _called("fancy_is_resolved", *source.arguments)
+    got: _Result = _library.fancy_is_resolved(*source.arguments)
     if got.status == _OUT_OF_MEMORY:
         raise MemoryError
     if got.status not in (_OK, _UNRESOLVED):
@@ -1233,7 +1412,7 @@ def to_pattern(pattern: Pattern, flags: int = UNICODE) -> str:
     >>> to_pattern(r"(?:a){0,1}(?# or)|\\x41")
     'a?|A'
     """
-    status, text = _Source(pattern, flags).text("fancy_to_pattern")
+    status, text = _Source(pattern, flags).text(_library.fancy_to_pattern)
     if status == _NO_PATTERN:
         raise RuntimeError("what is written for the tree does not parse back as it")
     return text
@@ -1245,11 +1424,11 @@ def format(pattern: Pattern, flags: int = UNICODE, style: Optional[Style] = None
 
     It is written as its author wrote it: escapes, classes, names and comments stay. Simpler forms of quantifiers are used, and
     groups, flags and ignored whitespace that are not needed go. `width` is how many characters a line may have in the style
-    `VERBOSE`.
+    `VERBOSE`, in which a pattern that is such a line stays one.
 
     >>> format("(?:a){0,1}|\\\\x41", style=Style.KEPT)
     'a?|\\\\x41'
-    >>> print(format("(?:a){0,1}|\\\\x41", style=Style.VERBOSE))
+    >>> print(format("(?:a){0,1}|\\\\x41", style=Style.VERBOSE, width=6))
     (?x)
       a?
     | \\x41
@@ -1262,14 +1441,14 @@ def format(pattern: Pattern, flags: int = UNICODE, style: Optional[Style] = None
     columns = min(operator.index(width), _UNBOUNDED)
     if columns < 0:
         raise ValueError("a width is not negative")
-    return source.text("fancy_format", number, columns)[1]
+    return source.text(_library.fancy_format, number, columns)[1]
 
 
 def normal_form(pattern: Pattern, flags: int = UNICODE, precedence: int = Precedence.WHOLE) -> Optional[str]:
     """Returns a text that is parsed as the normal form of a pattern's tree, or None if the tree is not printable: references,
     look-arounds, atomic groups, calls and the like have no text here. Raises `Error` if the pattern is invalid."""
     source, number = _Source(pattern, flags), _member(Precedence, precedence)
-    status, text = source.text("fancy_print", number)
+    status, text = source.text(_library.fancy_print, number)
     return None if status == _NOT_PRINTABLE else text
 
 
@@ -1281,7 +1460,7 @@ def escape(text: Pattern, flags: int = UNICODE) -> str:
     >>> escape("1+1\\t= 2"), escape("a b", UNICODE | IGNORE_SPACE)
     ('1\\\\+1\\\\t= 2', 'a\\\\ b')
     """
-    return _Source(text, flags).text("fancy_escape")[1]
+    return _Source(text, flags).text(_library.fancy_escape)[1]
 
 
 def class_ranges(text: Pattern, flags: int = UNICODE) -> Optional[Ranges]:
@@ -1294,7 +1473,7 @@ def class_ranges(text: Pattern, flags: int = UNICODE) -> Optional[Ranges]:
     ([(97, 99), (120, 120)], [(75, 75), (107, 107), (8490, 8490)], None)
     """
     source = _Source(text, flags)
-    return source.ranges("fancy_class_ranges", *source.arguments)
+    return source.ranges(_library.fancy_class_ranges, *source.arguments)
 
 
 def parse_id(text: Pattern) -> str:
@@ -1305,7 +1484,7 @@ def parse_id(text: Pattern) -> str:
     ('year', '')
     """
     source = _Source(text, 0)
-    got = _called("fancy_parse_id", *source.arguments[:2])
+    got: _Result = _library.fancy_parse_id(*source.arguments[:2])
     if got.status != _OK:
         raise source.refusal() or AssertionError
     return source.bytes[: got.size].decode()
@@ -1319,7 +1498,7 @@ def parse_decimal(text: Pattern) -> Optional[Tuple[int, int]]:
     ((2, 12), None)
     """
     source, value = _Source(text, 0), ctypes.c_size_t()
-    got = _called("fancy_parse_decimal", *source.arguments[:2], ctypes.byref(value))
+    got: _Result = _library.fancy_parse_decimal(*source.arguments[:2], ctypes.byref(value))
     if got.status != _OK:
         raise source.refusal() or AssertionError
     return (got.size, value.value) if got.size else None

@@ -235,9 +235,9 @@ impl CompactTree {
     ) -> Result<CompactTree, Wrong> {
         let (texts, bytes) = apart(rows).ok_or("a text that is not UTF-8")?;
         let mut tree = CompactTree { nodes: Vec::new(), texts, bytes, spans: Vec::new(), wide: Vec::new(), groups };
-        checked::check_tree(rows.nodes, tree.texts())?;
+        checked::check_tree(rows.nodes, tree.texts(), pattern)?;
         if has_spans {
-            tree.spans = checked::spans(rows.nodes, pattern, |span| [span.start as u32, span.end as u32])?;
+            tree.spans = rows.nodes.iter().map(|row| [row.start as u32, row.stop as u32]).collect();
         }
         tree.nodes = rows.nodes.iter().map(|row| Packed::of(row, &mut tree.wide)).collect();
         Ok(tree)

@@ -187,7 +187,7 @@ mod tests {
     #[test]
     fn what_the_crate_never_passes_is_refused_by_the_library() {
         let mut buffer = [0; 64];
-        assert_eq!(ffi::message("(", 512, &mut buffer).status, numbers::STATUS_UNKNOWN_FLAG);
+        assert_eq!(ffi::message("(", 1 << 31, &mut buffer).status, numbers::STATUS_UNKNOWN_FLAG);
         assert_eq!(ffi::message("a", numbers::FLAG_WITHOUT_SPANS, &mut buffer).status, numbers::STATUS_UNKNOWN_FLAG);
         assert_eq!(ffi::print("a", 32, 256, &mut Vec::new()).status, numbers::STATUS_UNKNOWN_PRECEDENCE);
         for status in [numbers::STATUS_UNKNOWN_FLAG, numbers::STATUS_UNKNOWN_PRECEDENCE] {

@@ -89,7 +89,7 @@ impl Flags {
     /// ```
     /// # use fancy_syntax::Flags;
     /// assert_eq!(Flags::from_bits(32), Some(Flags::UNICODE));
-    /// assert_eq!(Flags::from_bits(512), None);
+    /// assert_eq!(Flags::from_bits(1 << 31), None);
     /// ```
     pub const fn from_bits(bits: u32) -> Option<Flags> {
         if bits & !Flags::all().0 == 0 {
@@ -103,7 +103,7 @@ impl Flags {
     ///
     /// ```
     /// # use fancy_syntax::Flags;
-    /// assert_eq!(Flags::from_bits_truncate(512 + 32), Flags::UNICODE);
+    /// assert_eq!(Flags::from_bits_truncate(1 << 31 | 32), Flags::UNICODE);
     /// ```
     pub const fn from_bits_truncate(bits: u32) -> Flags {
         Flags(bits & Flags::all().0)

@@ -9,8 +9,8 @@ use crate::{error_of, ffi, numbers, Error, Flags};
 pub enum Style {
     /// As it is: its lines stay, with their indentation.
     Kept,
-    /// Over several lines. The pattern begins with `(?x)`, unless it is parsed under [`Flags::IGNORE_SPACE`] or sets this flag
-    /// first.
+    /// Over several lines, unless it is one that fits. The pattern then begins with `(?x)`, unless it is parsed under
+    /// [`Flags::IGNORE_SPACE`] or sets this flag first.
     Verbose {
         /// How many characters a line may have.
         width: usize,
@@ -41,11 +41,11 @@ impl Style {
 ///
 /// ```
 /// use fancy_syntax::{format_pattern, Flags, Style};
-/// let pattern = r"(?:\x41){1,}(?# one)|b";
-/// assert_eq!(format_pattern(pattern, Flags::UNICODE, Style::Kept)?, r"\x41+(?# one)|b");
-/// let lines = format_pattern(pattern, Flags::UNICODE, Style::Verbose { width: 80 })?;
-/// assert_eq!(lines, "(?x)\n  \\x41+(?# one)\n| b");
-/// assert_eq!(format_pattern(&lines, Flags::UNICODE, Style::Compact)?, r"\x41+(?# one)|b");
+/// let pattern = r"(?:\x41){1,}(?# one)|b|c";
+/// assert_eq!(format_pattern(pattern, Flags::UNICODE, Style::Kept)?, r"\x41+(?# one)|b|c");
+/// let lines = format_pattern(pattern, Flags::UNICODE, Style::Verbose { width: 16 })?;
+/// assert_eq!(lines, "(?x)\n  \\x41+(?# one)\n| b\n| c");
+/// assert_eq!(format_pattern(&lines, Flags::UNICODE, Style::Compact)?, r"\x41+(?# one)|b|c");
 /// # Ok::<(), fancy_syntax::Error>(())
 /// ```
 pub fn format_pattern(pattern: &str, flags: Flags, style: Style) -> Result<String, Error> {

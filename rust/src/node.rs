@@ -531,6 +531,15 @@ impl<'a> Texts<'a> {
         Texts { bytes, text: std::str::from_utf8(bytes).ok() }
     }
 
+    /// For a check of all nodes, which reads no text if all are ASCII.
+    pub(crate) fn to_check(bytes: &'a [u8]) -> Texts<'a> {
+        if bytes.is_ascii() {
+            Texts::unread(bytes)
+        } else {
+            Texts::of(bytes)
+        }
+    }
+
     /// For one node.
     pub(crate) fn unread(bytes: &'a [u8]) -> Texts<'a> {
         Texts { bytes, text: None }
@@ -543,6 +552,15 @@ impl<'a> Texts<'a> {
 
     fn bytes(self, row: &Node) -> Option<&'a [u8]> {
         bytes(self.bytes, row.text, row.text_size)
+    }
+
+    /// How many bytes they have, if all are ASCII; else 0.
+    pub(crate) fn ascii_size(self) -> usize {
+        if self.bytes.is_ascii() {
+            self.bytes.len()
+        } else {
+            0
+        }
     }
 
     #[inline(always)]

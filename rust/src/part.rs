@@ -122,7 +122,11 @@ mod tests {
     fn random_parts_are_written_as_with_all_names() {
         let (mut random, mut rows, mut named) = (Random(1), Rows::new(), 0);
         for round in 0..20_000 {
-            let flags = if round % 2 == 0 { Flags::UNICODE.bits() } else { random.below(512) as u32 };
+            let flags = if round % 2 == 0 {
+                Flags::UNICODE.bits()
+            } else {
+                random.below(Flags::all().bits() as usize + 1) as u32
+            };
             named += named_parts_of(&mut rows, &random.pattern(3), Flags::from_bits_truncate(flags));
         }
         assert!(named > 5_000, "{named}");

@@ -40,7 +40,7 @@ pub struct Rows {
     backrefs: Vec<usize>,
     /// Its sizes are the lengths of the buffers.
     info: Info,
-    /// The names in the order of their groups, from when a part of the tree is first written.
+    /// The names in the order of their groups, from when a part of the tree is first written, or a name is asked for.
     by_group: OnceLock<Vec<Name>>,
 }
 
@@ -180,7 +180,7 @@ impl Rows {
 
     /// The spans of the nodes, if each is a part of the pattern.
     pub(crate) fn checked_spans(&self, pattern: &str) -> Result<Vec<Span>, Error> {
-        checked::spans(&self.nodes, pattern, |span| span).map_err(Error::Library)
+        checked::spans(&self.nodes, pattern).map_err(Error::Library)
     }
 
     pub(crate) fn builder_at(&self, index: usize) -> Builder<'_> {
@@ -243,7 +243,11 @@ impl Rows {
     /// # Ok::<(), fancy_syntax::Error>(())
     /// ```
     pub fn group_name(&self, group: usize) -> Option<&str> {
-        self.names().find(|(_, number)| *number == group).map(|(name, _)| name)
+        let Ok(names) = self.names_by_group() else {
+            return self.names().find(|(_, number)| *number == group).map(|(name, _)| name);
+        };
+        let named = names.get(names.partition_point(|name| name.group < group))?;
+        (named.group == group).then(|| self.name(named).unwrap_or_default())
     }
 
     /// The group numbers of back references, from 0 up to [`total_groups`](Rows::total_groups), in ascending order, each once.
@@ -467,8 +471,8 @@ impl Rows {
     /// Checks that what the library wrote is a tree, so that nobody who looks at it later has to.
     fn check(&self, pattern: &str) -> Result<(), Error> {
         self.check_buffers()?;
-        let tree = checked::check_tree(&self.nodes, Texts::of(&self.texts));
-        tree.and_then(|()| checked::check_spans(&self.nodes, pattern)).map_err(|what| self.refused(what))
+        let checked = checked::check_tree(&self.nodes, Texts::to_check(&self.texts), pattern);
+        checked.map_err(|what| self.refused(what))
     }
 }
 

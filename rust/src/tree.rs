@@ -40,7 +40,8 @@ pub struct GroupInfo {
 }
 
 impl GroupInfo {
-    /// The name of the group with this number; `None` if it has none.
+    /// The name of the group with this number; `None` if it has none. It looks through all names: for those of all groups,
+    /// [`Tree::walk_groups`] is cheaper.
     ///
     /// ```
     /// use fancy_syntax::{parse, Flags};
@@ -51,6 +52,17 @@ impl GroupInfo {
     pub fn group_name(&self, group: usize) -> Option<&str> {
         let named = self.named_groups.iter().find(|(_, numbers)| numbers.contains(&group));
         named.map(|(name, _)| name.as_str())
+    }
+
+    /// The names of all groups that have one, by their numbers.
+    fn names_by_group(&self) -> BTreeMap<usize, &str> {
+        let mut names = BTreeMap::new();
+        for (name, numbers) in &self.named_groups {
+            for number in numbers {
+                names.entry(*number).or_insert(name.as_str());
+            }
+        }
+        names
     }
 }
 
@@ -106,6 +118,7 @@ impl Tree {
     /// ```
     pub fn walk_groups(&self) -> impl Iterator<Item = (usize, Option<&str>, &Expr)> {
         let groups = self.expr.walk().filter(|node| matches!(node, Expr::Group(_)));
-        (1..).zip(groups).map(move |(number, group)| (number, self.groups.group_name(number), group))
+        let names = self.groups.names_by_group();
+        (1..).zip(groups).map(move |(number, group)| (number, names.get(&number).copied(), group))
     }
 }

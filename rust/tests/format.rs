@@ -4,6 +4,7 @@ use fancy_syntax::{check, format_pattern, Flags, Style};
 
 const U: Flags = Flags::UNICODE;
 const WIDE: Style = Style::Verbose { width: 80 };
+const MIDDLE: Style = Style::Verbose { width: 11 };
 const NARROW: Style = Style::Verbose { width: 8 };
 
 #[test]
@@ -21,13 +22,16 @@ fn texts_by_hand() {
         ("a(?#)b(?# one)", U, Style::Kept, "ab(?# one)"),
         // blanks within a line, at its end, and before a comment through its end
         ("a  b \n (?:c){1,}   # one", verbose, Style::Kept, "a b\n c+   # one"),
-        ("a|b", U, WIDE, "(?x)\n  a\n| b"),
-        ("a #", U, WIDE, "(?x)\na\\ \\#"),
-        ("a #", U | Flags::CASEI, WIDE, "(?x)\na\\x20\\x23"),
-        ("a b", verbose, WIDE, "ab"),
-        ("(abcd|ef)g", U, WIDE, "(?x)\n(abcd|ef)g"),
+        // a line that fits, and others
+        ("a|b", U, WIDE, "a|b"),
+        ("a  b", verbose, WIDE, "a b"),
+        ("(abcd|ef)g", U, WIDE, "(abcd|ef)g"),
+        ("éé|é", U, Style::Verbose { width: usize::MAX }, "éé|é"),
+        ("a\n b", verbose, WIDE, "a\nb"),
+        ("a #|bcdefghi", U, MIDDLE, "(?x)\n  a\\ \\#\n| bcdefghi"),
+        ("a #|bcdefghi", U | Flags::CASEI, MIDDLE, "(?x)\n  a\\x20\\x23\n| bcdefghi"),
         ("(abcd|ef)g", U, NARROW, "(?x)\n(\n    abcd\n  | ef\n)\ng"),
-        ("éé|é", U, Style::Verbose { width: usize::MAX }, "(?x)\n  éé\n| é"),
+        ("éé|é", U, Style::Verbose { width: 3 }, "(?x)\n  éé\n| é"),
         ("(?x)\n  é{0,1}\n| b", U, Style::Compact, "é?|b"),
         ("a # one\n b", verbose, Style::Compact, "a(?# one)b"),
         ("(?x)\na\\x20\\x23", U | Flags::CASEI, Style::Compact, "a #"),

@@ -295,7 +295,7 @@ fn random_strings() {
     let mut invalid = 0;
     for _ in 0..count {
         let pattern = random.pattern();
-        let flags = Flags::from_bits_truncate(random.below(512) as u32);
+        let flags = Flags::from_bits_truncate(random.below(Flags::all().bits() as usize + 1) as u32);
         let outcome = parse(&pattern, flags);
         assert_eq!(check(&pattern, flags), outcome.clone().map(drop));
         match &outcome {

@@ -97,6 +97,11 @@ class Table:
         """Those of the flags, in the order of their bits."""
         return "".join(it.given["letter"] for it in self.group("flag").shared())
 
+    @property
+    def flags_end(self) -> str:
+        """The number after that of all flags together."""
+        return str(sum(it.number for it in self.group("flag").shared()) + 1)
+
     def version_numbers(self) -> dict:
         return dict(zip(("MAJOR", "MINOR", "PATCH"), self.version.split(".")))
 

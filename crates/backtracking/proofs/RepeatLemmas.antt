@@ -1,11 +1,11 @@
 -- Nodes that are slow repeats, and lists of them.
-use Rattle.std.proofs.Common.{◌≡◌, ℕ, Bool, List, [], ◌∷◌, ◌++◌, suc, Box, Global, rules, refl, sym, ap, ◌∙◌, subst, arith}
-use Rattle.std.specs.List.{AllByRecursion, IsAmong}
+use Rattle.std.proofs.Common.{◌≡◌, ℕ, Bool, List, [], ◌∷◌, ◌++◌, Box, Global, rules, sym, ap, ◌∙◌}
+use Rattle.std.specs.List.{AllByRecursion}
 use Rattle.fancy_grammar.specs.Tree.{repeat}
-use Rattle.fancy_syntax.specs.Spanned.{Spanned}
+use Rattle.fancy_syntax.specs.Spanned.{Spanned, IsNodeOf}
 use Rattle.fancy_syntax.specs.View.{view}
 use Rattle.fancy_syntax.specs.declared.expr.Expr.{Expr, Repeat, the_lemmas}
-use Rattle.backtracking.specs.SlowRepeats.{IsNodeOf, root, below, spanned_children, IsSlowAt, IsSlowIn}
+use Rattle.backtracking.specs.SlowRepeats.{IsSlowAt, IsSlowIn}
 use Rattle.backtracking.specs.declared.repeats.SlowRepeat.{SlowRepeat}
 
 view_Repeat : (b : Box Expr Global) (lo hi : ℕ) (greedy : Bool) → view (Repeat b lo hi greedy) ≡ repeat (view b.value) lo hi greedy
@@ -16,40 +16,8 @@ pub repeats : (e x : Expr) (b : Box Expr Global) (lo hi : ℕ) (greedy : Bool) �
     view e ≡ repeat (view x) lo hi greedy
 repeats e x b lo hi greedy h is = ap view h ∙ view_Repeat b lo hi greedy ∙ ap (λ y. repeat (view y) lo hi greedy) (sym is)
 
--- a node below a node of a tree is one of the tree
-pub node_below : (p q t : Spanned) → IsNodeOf p q → IsNodeOf q t → IsNodeOf p t
-node_below p q t k root = k
-node_below p q t k (below among l) = below among (node_below p q _ k l)
-
--- a child of a node is a node below it
-pub child_of : (p q t : Spanned) → IsAmong (spanned_children q) p → IsNodeOf q t → IsNodeOf p t
-child_of p q t among k = node_below p q t (below among root) k
-
 -- one more that is slow
 pub one_more : (unicode : Bool) (t p : Spanned) (rs : List SlowRepeat) (r : SlowRepeat) → IsSlowAt unicode p r → IsNodeOf p t →
     AllByRecursion (IsSlowIn unicode t) rs → AllByRecursion (IsSlowIn unicode t) (rs ++ (r ∷ []))
 one_more unicode t p [] r slow k all = (record { node = p; inside = k; slow = slow }, tt)
 one_more unicode t p (x ∷ xs) r slow k all = (all.0, one_more unicode t p xs r slow k all.1)
-
--- ---- children that are left
-
--- those that are left are children of p
-pub record Remain (p : Spanned) (left : List Spanned) : Type 0 where
-  pub inside : (c : Spanned) → IsAmong left c → IsAmong (spanned_children p) c
-
-pub remain_start : (p : Spanned) (left : List Spanned) → left ≡ spanned_children p → Remain p left
-remain_start p left h = record { inside = λ c a. subst (λ es. IsAmong es c) h a }
-
-among_first : (c : Spanned) (cs : List Spanned) → IsAmong (c ∷ cs) c
-among_first c cs = (0, (omega arith, refl))
-
-among_tail : (c d : Spanned) (cs : List Spanned) → IsAmong cs d → IsAmong (c ∷ cs) d
-among_tail c d cs (i, (h, is)) = (suc i, (omega arith, is))
-
-pub remain_first : (p c : Spanned) (left more : List Spanned) → Remain p left → left ≡ c ∷ more → IsAmong (spanned_children p) c
-remain_first p c left more s h = s.inside c (subst (λ es. IsAmong es c) (sym h) (among_first c more))
-
-pub remain_next : (p c : Spanned) (left more : List Spanned) → Remain p left → left ≡ c ∷ more → Remain p more
-remain_next p c left more s h = record {
-  inside = λ d a. s.inside d (subst (λ es. IsAmong es d) (sym h) (among_tail c d more a));
-}

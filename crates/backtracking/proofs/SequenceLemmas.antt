@@ -6,13 +6,13 @@ use Rattle.std.proofs.lemmas.Option.{slice_get-map, slice_get_read}
 use Rattle.std.specs.List.{AllByRecursion, slice_range}
 use Rattle.std.specs.Prelude.{IsSomeAnd, slice_get, option_map}
 use Rattle.fancy_grammar.specs.Tree.{Tree, concat, group, repeat, trees_of}
-use Rattle.fancy_syntax.specs.Spanned.{Spanned, first_span}
+use Rattle.fancy_syntax.specs.Spanned.{Spanned, first_span, IsNodeOf, spanned_children}
 use Rattle.fancy_syntax.proofs.ChildrenLemmas.{view_Concat}
 use Rattle.fancy_syntax.specs.View.{view, views}
 use Rattle.fancy_syntax.specs.declared.expr.Expr.{Expr, Concat}
 use Rattle.fancy_syntax.specs.declared.span.Span.{Span}
-use Rattle.backtracking.specs.SlowRepeats.{IsNodeOf, spanned_children}
-use Rattle.backtracking.specs.SlowSequences.{IsRepeatOf, itself, inside, IsSlowAcross, IsSlowSequenceIn}
+use Rattle.backtracking.specs.Chain.{Chain, next, links}
+use Rattle.backtracking.specs.SlowSequences.{IsRepeatOf, itself, inside, IsChain, more, link_of, IsSlowAcross, IsSlowSequenceIn}
 use Rattle.backtracking.specs.declared.sequences.SlowSequence.{SlowSequence}
 
 pub is_repeat : (t x : Tree) (lo hi : ℕ) (greedy : Bool) → t ≡ repeat x lo hi greedy → 20 < hi - lo → IsRepeatOf x t
@@ -35,6 +35,12 @@ pub trees_between : (es bs : List Expr) (i s j : ℕ) → s ≡ i + 1 → bs ≡
     views bs ≡ slice_range (views es) (i + 1) j
 trees_between es bs i s j start is = ap views is ∙ ap (λ n. views (slice_range es n j)) start
     ∙ sym (ap (take (j - (i + 1))) (drop-map view (i + 1) es) ∙ take-map view (j - (i + 1)) (drop (i + 1) es))
+
+-- the chain of a report, with its own two repeats as the last link
+pub chain_of : (unicode : Bool) (trees : List Tree) (spans : List Span) (r : SlowSequence) → IsSlowAcross unicode trees spans r →
+    (c : Chain) × IsChain unicode trees r.witness.word.items c r.last × (r.degree ≡ links c + 1)
+chain_of unicode trees spans r slow =
+    (next slow.earlier (link_of slow.ts slow.y r.witness), more slow.chain slow.cut slow.three, slow.degree)
 
 -- a pair of repeats of a node of a tree is one of the tree
 slow_in : (unicode : Bool) (tree node : Spanned) (trees : List Tree) (spans : List Span) (r : SlowSequence) → IsNodeOf node tree →

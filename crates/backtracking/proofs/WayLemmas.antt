@@ -1,6 +1,6 @@
 -- Steps of the checker, one node at a time.
 use Rattle.std.proofs.Common.{◌≡◌, ◌≢◌, ℕ, ◌+◌, ◌<◌, ◌≤◌, Bool, List, ◌∷◌, length, drop, get_or, Result, Option}
-use Rattle.std.proofs.Common.{IfOk, IfSome, Some, rules, refl, sym, ap, subst, ◌∙◌, drop-cons, add-one}
+use Rattle.std.proofs.Common.{IfOk, IfSome, Some, refl, sym, ap, subst, ◌∙◌, drop-cons, add-one}
 use Rattle.std.specs.Prelude.{slice_get, option_map}
 use Rattle.std.proofs.lemmas.Option.{IfSome_then, slice_get-map, slice_get_read}
 use Rattle.std.proofs.lemmas.Result.{IfOk-weaker}
@@ -8,7 +8,7 @@ use Rattle.fancy_grammar.specs.Tree.{Tree, Trees, list_of, trees_of, empty, grou
 use Rattle.fancy_syntax.proofs.ChildrenLemmas.{list_of_trees_of}
 use Rattle.fancy_syntax.proofs.PrintLemmas.{left, left_step, left_end}
 use Rattle.fancy_syntax.specs.View.{view, views}
-use Rattle.fancy_syntax.specs.declared.expr.Expr.{Expr, Empty, the_lemmas}
+use Rattle.fancy_syntax.specs.declared.expr.Expr.{Expr}
 use Rattle.backtracking.specs.OneCharacter.{MayMatch}
 use Rattle.backtracking.specs.TwoWays.{Rest, at, Goes, nothing, one, within, each, branch, turns, GoesAll, no_more, next}
 use Rattle.backtracking.specs.TwoWays.{Turns, turn, Part, here, later}
@@ -27,11 +27,8 @@ at_some P o x h k = subst (λ p. IfSome p P) h k
 
 -- ---- nodes
 
-view_Empty : view Empty ≡ empty
-view_Empty = search (rules, the_lemmas)
-
-pub went_empty : (unicode : Bool) (e : Expr) (s : Rest) → e ≡ Empty → Goes unicode (view e) s s
-went_empty unicode e s h = subst (λ t. Goes unicode t s s) (sym (ap view h ∙ view_Empty)) nothing
+pub went_empty : (unicode : Bool) (t : Tree) (s : Rest) → t ≡ empty → Goes unicode t s s
+went_empty unicode t s is = subst (λ x. Goes unicode x s s) (sym is) nothing
 
 pub went_group : (unicode : Bool) (t x : Tree) (s u : Rest) → t ≡ group x → Goes unicode x s u → Goes unicode t s u
 went_group unicode t x s u is k = subst (λ y. Goes unicode y s u) (sym is) (within k)

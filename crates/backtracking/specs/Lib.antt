@@ -1,6 +1,7 @@
 -- The definitions that the contracts use.
 
 pub mod OneCharacter
+pub mod RegularShape
 pub mod TwoWays
 pub mod ManyWays
 pub mod Witnessed
@@ -9,4 +10,5 @@ pub mod SlowRepeats
 pub mod ThreeWays
 pub mod ManySplits
 pub mod Across
+pub mod Chain
 pub mod SlowSequences

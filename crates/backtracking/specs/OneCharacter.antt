@@ -1,9 +1,16 @@
 -- What a node that matches one character may match.
-use Rattle.std.specs.Prelude.{◌≡◌, ℕ, Bool, true, List, IsSomeAnd}
+use Rattle.std.specs.Prelude.{◌≡◌, ℕ, Bool, true, false, List, IsSomeAnd}
 use Rattle.regex_class.specs.Ranges.{Range, in_ranges}
-use Rattle.fancy_grammar.specs.Tree.{Tree}
+use Rattle.fancy_grammar.specs.Tree.{Tree, any, literal, delegate}
 use Rattle.class_meaning.specs.ClassMeaning.{MatchesOneOf}
 use Rattle.class_meaning.specs.EnginePattern.{engine_pattern}
+
+-- the node is of a kind that matches one character: a dot, a literal or a class
+abbrev pub is_character : Tree → Bool
+is_character (any newline crlf) = true
+is_character (literal text casei) = true
+is_character (delegate text casei) = true
+is_character _ = false
 
 -- the matching engine reads the node's pattern as one character of some ranges, and the one of this code is in them
 pub record MayMatch (unicode : Bool) (t : Tree) (c : ℕ) : Type 0 where

@@ -1,24 +1,13 @@
 -- What a report on a repeat of a pattern rests on.
-use Rattle.std.specs.Prelude.{◌≡◌, ℕ, ◌<◌, Bool, List, drop}
-use Rattle.std.specs.List.{IsAmong}
+use Rattle.std.specs.Prelude.{◌≡◌, ℕ, ◌<◌, Bool}
 use Rattle.fancy_grammar.specs.Tree.{Tree, repeat}
-use Rattle.fancy_syntax.specs.Spanned.{Spanned, first_span, side_by_side}
-use Rattle.fancy_syntax.specs.Children.{children_of}
+use Rattle.fancy_syntax.specs.Spanned.{Spanned, first_span, IsNodeOf}
 use Rattle.fancy_syntax.specs.View.{view}
 use Rattle.backtracking.specs.ManyWays.{HasManyWays}
 use Rattle.backtracking.specs.TwoWays.{AreTwoWays}
 use Rattle.backtracking.specs.declared.repeats.Looked.{Looked}
 use Rattle.backtracking.specs.declared.repeats.Looked.TheVariants.{Slow, Fast, Unknown}
 use Rattle.backtracking.specs.declared.repeats.SlowRepeat.{SlowRepeat}
-
--- the children of a node, with the spans of each
-abbrev pub spanned_children : Spanned → List Spanned
-spanned_children p = side_by_side (children_of p.expr) (drop 1 p.spans) (drop 1 p.sizes)
-
--- p is a node of the tree whose root is q
-pub data IsNodeOf (p : Spanned) : Spanned → Type 0 where
-  root : IsNodeOf p p
-  below : {q c : Spanned} → IsAmong (spanned_children q) c → IsNodeOf p c → IsNodeOf p q
 
 -- the node repeats a part without a limit, or with one above 20; the report has its span, and a word over which turns of the
 -- part have two ways, so that there are 2^n ways over the word n times

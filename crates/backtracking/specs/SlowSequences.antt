@@ -2,13 +2,13 @@
 use Rattle.std.specs.Prelude.{◌≡◌, ℕ, suc, ◌+◌, ◌-◌, ◌<◌, Bool, List, map, slice_get, IsSomeAnd}
 use Rattle.std.specs.List.{slice_range}
 use Rattle.fancy_grammar.specs.Tree.{Tree, trees_of, concat, group, repeat}
-use Rattle.fancy_syntax.specs.Spanned.{Spanned, first_span}
+use Rattle.fancy_syntax.specs.Spanned.{Spanned, first_span, IsNodeOf, spanned_children}
 use Rattle.fancy_syntax.specs.View.{view}
 use Rattle.fancy_syntax.specs.declared.span.Span.{Span}
+use Rattle.backtracking.specs.Chain.{Link, Chain, start, next, last_part, links, HasWaysThrough}
 use Rattle.backtracking.specs.ManySplits.{HasManySplits}
-use Rattle.backtracking.specs.SlowRepeats.{IsNodeOf, spanned_children}
 use Rattle.backtracking.specs.ThreeWays.{AreThreeWays}
-use Rattle.backtracking.specs.declared.decision.Decision.{Decision}
+use Rattle.backtracking.specs.declared.cut.SequenceWitness.{SequenceWitness}
 use Rattle.backtracking.specs.declared.sequences.SlowSequence.{SlowSequence}
 
 -- the tree repeats the part without a limit, or with one more than 20 above the least number, or is a group of such
@@ -29,34 +29,32 @@ pub record IsSpanAcross (spans : List Span) (i j : ℕ) (span : Span) : Type 0 w
   pub start : IsSomeAnd (slice_get spans i) (λ s. span.start ≡ s.start)
   pub end : IsSomeAnd (slice_get spans j) (λ s. span.end ≡ s.end)
 
--- two repeats of the trees have three ways over the word
-pub record IsPair (unicode : Bool) (trees : List Tree) (w : List ℕ) (i j : ℕ) : Type 0 where
-  pub x : Tree
-  pub ts : List Tree
-  pub y : Tree
-  pub cut : IsCut trees i j x ts y
-  pub ds : List Decision
-  pub es : List Decision
-  pub fs : List Decision
-  pub three : AreThreeWays unicode x ts y w ds es fs
+-- the chain is one of repeats of the trees, each of which has three ways over the word with the next one; its last repeat
+-- is at the index
+pub data IsChain (unicode : Bool) (trees : List Tree) (w : List ℕ) : Chain → ℕ → Type 0 where
+  one : {x i : _} → IsSomeAnd (slice_get trees i) (IsRepeatOf x) → IsChain unicode trees w (start x) i
+  more : {c i j : _} → {l : Link} → IsChain unicode trees w c i → IsCut trees i j (last_part c) l.between l.part →
+      AreThreeWays unicode (last_part c) l.between l.part w l.before l.across l.after → IsChain unicode trees w (next c l) j
 
--- a chain of so many repeats of the trees ends at an index: each and the next one have three ways over the word
-pub data IsChain (unicode : Bool) (trees : List Tree) (w : List ℕ) : ℕ → ℕ → Type 0 where
-  one : {i : ℕ} → IsChain unicode trees w i 1
-  more : {i j d : ℕ} → IsChain unicode trees w i d → IsPair unicode trees w i j → IsChain unicode trees w j (suc d)
+-- the last link of the chain of a report
+abbrev pub link_of : List Tree → Tree → SequenceWitness → Link
+link_of ts y w = record { between = ts; part = y; before = w.first.items; across = w.across.items; after = w.last.items }
 
--- the report has the span of two repeats of the trees, a word with three ways, so that there are n ways over the word n
--- times, and the degree of a chain over the word that ends with the two
+-- The report has the span of two repeats of the trees, and a word with three ways, so that there are n ways over the word n
+-- times. Its degree is how many repeats the chain has that ends with these two, and there are m^(degree - 1) ways through
+-- the chain over the word m * (degree - 1) times.
 pub record IsSlowAcross (unicode : Bool) (trees : List Tree) (spans : List Span) (r : SlowSequence) : Type 0 where
   pub i : ℕ
-  pub x : Tree
+  pub earlier : Chain  -- through the first of the two
   pub ts : List Tree
   pub y : Tree
-  pub cut : IsCut trees i r.last x ts y
+  pub chain : IsChain unicode trees r.witness.word.items earlier i
+  pub cut : IsCut trees i r.last (last_part earlier) ts y
   pub span : IsSpanAcross spans i r.last r.span
-  pub chain : IsChain unicode trees r.witness.word.items r.last r.degree
-  pub three : AreThreeWays unicode x ts y r.witness.word.items r.witness.first.items r.witness.across.items r.witness.last.items
-  pub many : HasManySplits unicode x ts y r.witness.word.items r.witness.first.items r.witness.across.items r.witness.last.items
+  pub three : AreThreeWays unicode (last_part earlier) ts y r.witness.word.items r.witness.first.items r.witness.across.items r.witness.last.items
+  pub many : HasManySplits unicode (last_part earlier) ts y r.witness.word.items r.witness.first.items r.witness.across.items r.witness.last.items
+  pub degree : r.degree ≡ links (next earlier (link_of ts y r.witness)) + 1
+  pub through : HasWaysThrough unicode (next earlier (link_of ts y r.witness)) r.witness.word.items
 
 -- the same of some concatenation of the pattern
 pub record IsSlowSequenceIn (unicode : Bool) (tree : Spanned) (r : SlowSequence) : Type 0 where

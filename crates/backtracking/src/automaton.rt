@@ -1,10 +1,10 @@
 //! The steps that an engine takes through turns of a part of a pattern.
-use crate::characters::is_one_character;
 use crate::cut::Cut;
 use crate::decision::Decision;
 use crate::known_sets::KnownSets;
+use crate::regular_shape::{RegularShape, regular_shape};
 use class_meaning::CharacterSet;
-use fancy_syntax::expr::{Expr, Shape, Wrap};
+use fancy_syntax::expr::Expr;
 use std::alloc::{AllocError, Global};
 use thiserror::Error;
 
@@ -175,26 +175,14 @@ impl Automaton {
         tree: &'a Expr,
         next: usize,
     ) -> Result<usize, NotBuilt> {
-        match tree.shape() {
-            Shape::Leaf if matches!(tree, Expr::Empty) => Ok(next),
-            Shape::Leaf if is_one_character(tree) => self.add_position(sets, tree, next),
-            Shape::Around(Wrap::Group, child) => self.add_tree(sets, child, next),
-            Shape::Around(Wrap::Repeat { lo, hi, .. }, child) => {
-                self.add_repeat(sets, child, lo, hi, next)
-            }
-            Shape::Concat(trees) => self.add_all(sets, trees, next),
-            Shape::Alt(branches) => self.add_branches(sets, branches, next),
-            Shape::Leaf
-            | Shape::Around(
-                Wrap::LookAround(_)
-                | Wrap::AtomicGroup
-                | Wrap::DefineGroup
-                | Wrap::Repeater
-                | Wrap::Stopper,
-                _,
-            )
-            | Shape::Conditional { .. }
-            | Shape::Expression { .. } => Err(NotBuilt::Irregular),
+        match regular_shape(tree) {
+            RegularShape::Empty => Ok(next),
+            RegularShape::Character => self.add_position(sets, tree, next),
+            RegularShape::Group(child) => self.add_tree(sets, child, next),
+            RegularShape::Repeat { child, lo, hi } => self.add_repeat(sets, child, lo, hi, next),
+            RegularShape::Concat(trees) => self.add_all(sets, trees, next),
+            RegularShape::Alt(branches) => self.add_branches(sets, branches, next),
+            RegularShape::Irregular => Err(NotBuilt::Irregular),
         }
     }
 

@@ -1,14 +1,16 @@
 //! What a node that matches one character may match.
-ghost use Rattle.std.specs.Prelude.{IfOk, IsTrue};
+ghost use Rattle.std.specs.Prelude.{◌≡◌, IfOk, IsTrue};
 ghost use Rattle.fancy_syntax.specs.View.{view};
-ghost use Rattle.backtracking.specs.OneCharacter.{MayMatch};
+ghost use Rattle.backtracking.specs.OneCharacter.{MayMatch, is_character};
 
 use class_meaning::{ClassMeaning, characters_of};
 use fancy_syntax::expr::Expr;
 use std::alloc::{AllocError, Global};
 
 /// Whether the node is of a kind that matches one character: a dot, a literal or a class.
-pub(crate) fn is_one_character(node: &Expr) -> bool {
+pub(crate) fn is_one_character(node: &Expr) -> bool
+    ensures { result ≡ is_character (view node.now) }
+{
     matches!(
         node,
         Expr::Any { .. } | Expr::Literal { .. } | Expr::Delegate { .. }

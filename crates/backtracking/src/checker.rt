@@ -5,9 +5,10 @@ ghost use Rattle.fancy_syntax.specs.View.{view, views};
 ghost use Rattle.backtracking.specs.TwoWays.{Goes, GoesAll, Turns, Part, IsWay, AreTwoWays};
 ghost use Rattle.backtracking.specs.Remains.{rest_of};
 
-use crate::characters::{is_one_character, may_match};
+use crate::characters::may_match;
 use crate::decision::Decision;
-use fancy_syntax::expr::{Expr, Shape, Wrap};
+use crate::regular_shape::{RegularShape, regular_shape};
+use fancy_syntax::expr::Expr;
 use std::alloc::{AllocError, Global};
 
 /// The decisions that are still to be taken, and the characters that are still to be matched.
@@ -56,26 +57,16 @@ fn go_over<'a>(
 ) -> Result<Option<Remaining<'a>>, AllocError>
     ensures { IfOk result (λ o. IfSome o (λ u. Goes unicode (view tree.now) (rest_of from.entry) (rest_of u))) }
 {
-    match tree.shape() {
-        Shape::Leaf if matches!(tree, Expr::Empty) => Ok(Some(from)),
-        Shape::Leaf if is_one_character(tree) => go_over_character(alloc, tree, unicode, from),
-        Shape::Around(Wrap::Group, child) => go_over(alloc, child, unicode, from),
-        Shape::Around(Wrap::Repeat { lo, hi, .. }, child) => {
+    match regular_shape(tree) {
+        RegularShape::Empty => Ok(Some(from)),
+        RegularShape::Character => go_over_character(alloc, tree, unicode, from),
+        RegularShape::Group(child) => go_over(alloc, child, unicode, from),
+        RegularShape::Repeat { child, lo, hi } => {
             go_over_repeat(alloc, child, unicode, lo, hi, from)
         }
-        Shape::Concat(trees) => go_over_all(alloc, trees, unicode, from),
-        Shape::Alt(branches) => go_over_branch(alloc, branches, unicode, from),
-        Shape::Leaf
-        | Shape::Around(
-            Wrap::LookAround(_)
-            | Wrap::AtomicGroup
-            | Wrap::DefineGroup
-            | Wrap::Repeater
-            | Wrap::Stopper,
-            _,
-        )
-        | Shape::Conditional { .. }
-        | Shape::Expression { .. } => Ok(None),
+        RegularShape::Concat(trees) => go_over_all(alloc, trees, unicode, from),
+        RegularShape::Alt(branches) => go_over_branch(alloc, branches, unicode, from),
+        RegularShape::Irregular => Ok(None),
     }
 }
 

@@ -14,6 +14,7 @@ pub mod known_sets;
 mod pairs;
 mod part_kind;
 mod pieces;
+mod regular_shape;
 pub mod repeats;
 mod routes;
 mod sample;

@@ -1,6 +1,6 @@
 //! Which parts of a pattern are searched for two ways.
-use crate::characters::is_one_character;
-use fancy_syntax::expr::{Expr, Shape, Wrap};
+use crate::regular_shape::{RegularShape, regular_shape};
+use fancy_syntax::expr::Expr;
 
 /// The most nodes that are looked at.
 const MOST_NODES: usize = 2000;
@@ -36,29 +36,19 @@ impl PartFacts {
         if !self.is_regular || self.nodes > MOST_NODES {
             return;
         }
-        match tree.shape() {
-            Shape::Leaf if matches!(tree, Expr::Empty) || is_one_character(tree) => {}
-            Shape::Around(Wrap::Group, child) => self.add(child),
-            Shape::Around(Wrap::Repeat { lo, hi, .. }, child) => {
+        match regular_shape(tree) {
+            RegularShape::Empty | RegularShape::Character => {}
+            RegularShape::Group(child) => self.add(child),
+            RegularShape::Repeat { child, lo, hi } => {
                 self.has_choice = self.has_choice || lo < hi;
                 self.add(child);
             }
-            Shape::Concat(trees) => self.add_all(trees),
-            Shape::Alt(branches) => {
+            RegularShape::Concat(trees) => self.add_all(trees),
+            RegularShape::Alt(branches) => {
                 self.has_choice = true;
                 self.add_all(branches);
             }
-            Shape::Leaf
-            | Shape::Around(
-                Wrap::LookAround(_)
-                | Wrap::AtomicGroup
-                | Wrap::DefineGroup
-                | Wrap::Repeater
-                | Wrap::Stopper,
-                _,
-            )
-            | Shape::Conditional { .. }
-            | Shape::Expression { .. } => self.is_regular = false,
+            RegularShape::Irregular => self.is_regular = false,
         }
     }
 

@@ -1,11 +1,11 @@
 //! Which trees of a concatenation a text can go across.
-use crate::characters::is_one_character;
 use crate::common::have_common;
 use crate::known_sets::KnownSets;
 use crate::part_kind::{PartKind, kind_of};
+use crate::regular_shape::{RegularShape, regular_shape};
 use crate::sequences::repeated_part;
 use class_meaning::CharacterSet;
-use fancy_syntax::expr::{Expr, Shape, Wrap};
+use fancy_syntax::expr::Expr;
 use std::alloc::{AllocError, Global};
 
 /// A tree of a concatenation.
@@ -52,21 +52,11 @@ impl<'s, 'a, 'k> Alphabet<'s, 'a, 'k> {
     /// Adds the characters of the tree.
     #[cycle(add)]
     fn add(&mut self, tree: &'a Expr) -> Result<(), AllocError> {
-        match tree.shape() {
-            Shape::Leaf if is_one_character(tree) => self.add_node(tree),
-            Shape::Around(Wrap::Group | Wrap::Repeat { .. }, child) => self.add(child),
-            Shape::Concat(trees) | Shape::Alt(trees) => self.add_all(trees),
-            Shape::Leaf
-            | Shape::Around(
-                Wrap::LookAround(_)
-                | Wrap::AtomicGroup
-                | Wrap::DefineGroup
-                | Wrap::Repeater
-                | Wrap::Stopper,
-                _,
-            )
-            | Shape::Conditional { .. }
-            | Shape::Expression { .. } => Ok(()),
+        match regular_shape(tree) {
+            RegularShape::Character => self.add_node(tree),
+            RegularShape::Group(child) | RegularShape::Repeat { child, .. } => self.add(child),
+            RegularShape::Concat(trees) | RegularShape::Alt(trees) => self.add_all(trees),
+            RegularShape::Empty | RegularShape::Irregular => Ok(()),
         }
     }
 
@@ -94,22 +84,13 @@ impl<'s, 'a, 'k> Alphabet<'s, 'a, 'k> {
 /// Whether the tree may match the empty text. Only trees with ways of their own are looked at.
 #[cycle(can_be_empty)]
 fn can_be_empty(tree: &Expr) -> bool {
-    match tree.shape() {
-        Shape::Leaf => matches!(tree, Expr::Empty),
-        Shape::Around(Wrap::Group, child) => can_be_empty(child),
-        Shape::Around(Wrap::Repeat { lo, .. }, child) => lo == 0 || can_be_empty(child),
-        Shape::Concat(trees) => can_all_be_empty(trees),
-        Shape::Alt(branches) => can_any_be_empty(branches),
-        Shape::Around(
-            Wrap::LookAround(_)
-            | Wrap::AtomicGroup
-            | Wrap::DefineGroup
-            | Wrap::Repeater
-            | Wrap::Stopper,
-            _,
-        )
-        | Shape::Conditional { .. }
-        | Shape::Expression { .. } => false,
+    match regular_shape(tree) {
+        RegularShape::Empty => true,
+        RegularShape::Character | RegularShape::Irregular => false,
+        RegularShape::Group(child) => can_be_empty(child),
+        RegularShape::Repeat { child, lo, .. } => lo == 0 || can_be_empty(child),
+        RegularShape::Concat(trees) => can_all_be_empty(trees),
+        RegularShape::Alt(branches) => can_any_be_empty(branches),
     }
 }
 

@@ -1,8 +1,8 @@
 //! The repeats of a pattern that can match a text in exponentially many ways.
 ghost use Rattle.std.specs.Prelude.{IfOk, OnOk};
 ghost use Rattle.std.specs.List.{AllByRecursion};
-ghost use Rattle.fancy_syntax.specs.Spanned.{Spanned, spanned_of, spanned_of_tree};
-ghost use Rattle.backtracking.specs.SlowRepeats.{IsNodeOf, IsSlowIn, IsLooked};
+ghost use Rattle.fancy_syntax.specs.Spanned.{Spanned, spanned_of, spanned_of_tree, IsNodeOf};
+ghost use Rattle.backtracking.specs.SlowRepeats.{IsSlowIn, IsLooked};
 
 use crate::attack::{Attack, Surroundings, Target, enclosing_of, find_attack};
 use crate::known_sets::ClassSets;

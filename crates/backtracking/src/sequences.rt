@@ -1,20 +1,21 @@
 //! The concatenations of a pattern that can match a text in polynomially many ways.
-ghost use Rattle.std.specs.Prelude.{◌≡◌, ◌++◌, map, Bool, List, IfOk, IfSome, OnOk};
+ghost use Rattle.std.specs.Prelude.{◌≡◌, ◌+◌, ◌++◌, map, slice_get, Bool, List, IfOk, IfSome, IsSomeAnd, OnOk};
 ghost use Rattle.std.specs.List.{AllByRecursion};
-ghost use Rattle.fancy_syntax.specs.Spanned.{Spanned, spanned_of, spanned_of_tree, first_span};
+ghost use Rattle.fancy_syntax.specs.Spanned.{Spanned, spanned_of, spanned_of_tree, first_span, IsNodeOf, spanned_children};
 ghost use Rattle.fancy_grammar.specs.Tree.{Tree, concat, trees_of};
 ghost use Rattle.fancy_syntax.specs.View.{view, views};
 ghost use Rattle.fancy_syntax.specs.declared.span.Span.{Span};
-ghost use Rattle.backtracking.specs.SlowRepeats.{IsNodeOf, spanned_children};
+ghost use Rattle.backtracking.specs.Chain.{Chain, links};
 ghost use Rattle.backtracking.specs.SlowSequences.{IsRepeatOf, IsCut, IsSpanAcross, IsChain, IsSlowAcross, IsSlowSequenceIn};
 
 use crate::attack::{Attack, Surroundings, Target, enclosing_of, find_attack};
 use crate::cut::{Cut, SequenceWays, SequenceWitness};
 use crate::known_sets::ClassSets;
 use crate::pieces::{Piece, Reach, pieces_of};
+use crate::regular_shape::{RegularShape, regular_shape};
 use crate::repeats::{SMALL_LIMIT, SearchOptions, is_left_alone};
 use crate::sequence::ways_of_cut;
-use fancy_syntax::expr::{Expr, Shape, Wrap};
+use fancy_syntax::expr::Expr;
 use fancy_syntax::span::Span;
 use fancy_syntax::spanned::{SpannedNode, SpannedTree};
 use std::alloc::{AllocError, Global};
@@ -34,8 +35,8 @@ pub struct SlowSequence {
     pub witness: SequenceWitness,
     /// What to put around the repeated word.
     pub attack: Attack,
-    /// The degree of the polynomial, as far as it is known: how many repeats a chain has that ends with these two, where each
-    /// and the next one can share the word.
+    /// How many repeats a chain has that ends with these two, where each and the next one can share the word. With degree d
+    /// there are m^(d-1) ways over m * (d-1) repetitions.
     pub degree: usize,
     /// The index of the last repeat in the concatenation.
     pub(crate) last: usize,
@@ -60,28 +61,20 @@ struct Row<'a, 's> {
 pub(crate) fn repeated_part(tree: &Expr) -> Option<&Expr>
     ensures { IfSome result (λ part. IsRepeatOf (view part.now) (view tree.now)) }
 {
-    match tree.shape() {
-        Shape::Around(Wrap::Group, child) => repeated_part(child),
-        Shape::Around(Wrap::Repeat { lo, hi, .. }, child) => {
+    match regular_shape(tree) {
+        RegularShape::Group(child) => repeated_part(child),
+        RegularShape::Repeat { child, lo, hi } => {
             if hi.saturating_sub(lo) > SMALL_LIMIT {
                 Some(child)
             } else {
                 None
             }
         }
-        Shape::Around(
-            Wrap::LookAround(_)
-            | Wrap::AtomicGroup
-            | Wrap::DefineGroup
-            | Wrap::Repeater
-            | Wrap::Stopper,
-            _,
-        )
-        | Shape::Concat(_)
-        | Shape::Alt(_)
-        | Shape::Conditional { .. }
-        | Shape::Expression { .. }
-        | Shape::Leaf => None,
+        RegularShape::Empty
+        | RegularShape::Character
+        | RegularShape::Concat(_)
+        | RegularShape::Alt(_)
+        | RegularShape::Irregular => None,
     }
 }
 
@@ -106,10 +99,12 @@ fn span_across(spans: &[Span], first: usize, last: usize) -> Option<Span>
     Some(Span { start, end })
 }
 
-/// How many repeats a chain over the word has that ends at the index; 1 if no pair ends there.
+/// How many repeats a chain over the word has that ends with the repeat at the index; 1 if no pair ends there.
 fn chain_to(pairs: &[SlowSequence], index: usize, word: &[char]) -> usize
-    ensures { (unicode : Bool) → (trees : List Tree) → (spans : List Span) →
-        AllByRecursion (IsSlowAcross unicode trees spans) pairs.now → IsChain unicode trees word.now index result }
+    ensures { (unicode : Bool) → (trees : List Tree) → (spans : List Span) → (part : Tree) →
+        IsSomeAnd (slice_get trees index) (IsRepeatOf part) →
+        AllByRecursion (IsSlowAcross unicode trees spans) pairs.now →
+        (c : Chain) × IsChain unicode trees word.now c index × (result ≡ links c + 1) }
 {
     let mut longest = 1;
     for pair in pairs {

@@ -3,3 +3,6 @@ mod SetLemmas
 mod ProblemLemmas
 mod KnownLemmas
 mod BeginningLemmas
+mod NodeLemmas
+mod FindingLemmas
+mod BranchLemmas

@@ -1,15 +1,18 @@
 -- What is wrong with a class.
-use Rattle.std.specs.Prelude.{◌≡◌, ℕ, Bool, false, ◌&&◌, nat_le, if◌then◌else◌, List, [], ◌∷◌, chars, All}
+use Rattle.std.specs.Prelude.{◌≡◌, ℕ, ◌<◌, ◌⊎◌, Bool, false, ◌&&◌, nat_le, if◌then◌else◌, List, [], ◌∷◌, ◌++◌, chars, codes, All, Any}
+use Prim.Native.Char.{code}
 use Rattle.fancy_lex.specs.declared.flags.Flags.{Flags}
 use Rattle.fancy_syntax.specs.declared.span.Span.{Span}
 use Rattle.class_meaning.specs.CharacterSet.{has_character}
 use Rattle.class_meaning.specs.ClassMeaning.{class_config, IsMeaningOf, IsRefusedAs}
 use Rattle.class_meaning.specs.declared.character_set.CharacterSet.{CharacterSet}
 use Rattle.class_meaning.specs.declared.class_text.ClassMeaning.TheVariants.{Characters}
-use Rattle.class_rules.specs.ClassSource.{HasCharacters, SameCharacters, LeavesOut, IsInBrackets}
+use Rattle.class_rules.specs.ClassSource.{HasCharacters, SameCharacters, IsTextAt, IsAll, LeavesOut, IsInBrackets}
 use Rattle.class_rules.specs.declared.class_problem.CharacterKind.{CharacterKind}
 use Rattle.class_rules.specs.declared.class_problem.CharacterKind.TheVariants.{Digit, UpperCase, LowerCase, Other}
 use Rattle.class_rules.specs.declared.class_problem.ClassFinding.{ClassFinding}
+use Rattle.class_rules.specs.declared.class_problem.ClassLook.{ClassLook}
+use Rattle.class_rules.specs.declared.class_problem.ClassLook.TheVariants.{Alternatives, PosixClass, WideRange, Word}
 use Rattle.class_rules.specs.declared.class_problem.ClassProblem.{ClassProblem}
 use Rattle.class_rules.specs.declared.class_problem.ClassProblem.TheVariants as problem
 
@@ -38,17 +41,67 @@ IsMixedRange f source span kind other =
     (first last : ℕ) × IsRangeAt f source span first last × (character_kind first ≡ kind) × (character_kind last ≡ other)
     × (kind ≡ other → ⊥)
 
+-- the part at the span is this one character
+abbrev pub IsCharacterAt : List ℕ → Span → ℕ → Type 0
+IsCharacterAt source span c = (part : List ℕ) × IsTextAt source span part × (chars part ≡ c ∷ [])
+
+-- the class has a bar, which is written as itself
+abbrev pub HasBar : List ℕ → Type 0
+HasBar source = (span : Span) × IsCharacterAt source span (code "|")
+
+-- the rest is the text, or the text after a caret
+abbrev pub IsAfterCaret : List ℕ → List ℕ → Type 0
+IsAfterCaret text rest = (text ≡ rest) ⊎ (text ≡ codes "^" ++ rest)
+
+-- the class begins with a colon, which may follow a caret, and ends with one
+abbrev pub IsBetweenColons : List ℕ → Type 0
+IsBetweenColons source =
+    (text inside : List ℕ) × (source ≡ codes "[" ++ text) × IsAfterCaret text (codes ":" ++ (inside ++ codes ":]"))
+
+-- the character is between the two, and neither of them
+abbrev pub IsBetween : ℕ → ℕ → ℕ → Type 0
+IsBetween first last c = (first < c) × (c < last)
+
+-- from the one character to the other are characters of several kinds
+abbrev pub AreOfSeveralKinds : ℕ → ℕ → Type 0
+AreOfSeveralKinds first last =
+    (character_kind first ≡ character_kind last → ⊥)
+    ⊎ (IsBetween first last (code "0") ⊎ (IsBetween first last (code "A") ⊎ IsBetween first last (code "a")))
+
+-- the text is a range from the one character to the other, which are written as themselves
+abbrev pub IsPlainRange : List ℕ → ℕ → ℕ → Type 0
+IsPlainRange text first last = chars text ≡ first ∷ code "-" ∷ last ∷ []
+
+-- the part at the span is a range over several kinds of characters, whose ends are written as themselves
+abbrev pub IsWideRange : List ℕ → Span → Type 0
+IsWideRange source span =
+    (part : List ℕ) × IsTextAt source span part
+    × (first last : ℕ) × IsPlainRange part first last × AreOfSeveralKinds first last
+
+-- what shows, at the span, that the class is likely meant as something else
+abbrev pub ShowsLook : List ℕ → Span → ClassLook → Type 0
+ShowsLook source span Alternatives = IsAll source span × HasBar source
+ShowsLook source span PosixClass = IsAll source span × IsBetweenColons source
+ShowsLook source span WideRange = IsWideRange source span
+ShowsLook source span Word = IsAll source span
+
+-- a part of the class can be left out, and at the span is what shows that it is likely meant as something else
+abbrev pub IsSuspicious : Flags → Bool → List ℕ → Span → ClassLook → Type 0
+IsSuspicious f casei source span look =
+    ((part : Span) × IsNeedless f casei source part) × ShowsLook source span look
+
 -- The problem is one of the class that the pattern has as `source`, and for which the engine is given `text`; it is
--- wrong with the part of the source at the span.
+-- wrong with the part of the source at the span. That a branch is contained is no problem of a class.
 abbrev pub IsProblemAt : Flags → Bool → List ℕ → List ℕ → Span → ClassProblem → Type 0
 IsProblemAt f casei source text span (problem.Invalid kind) =
-    IsRefusedAs (class_config f.unicode casei) (chars text) kind
+    IsAll source span × IsRefusedAs (class_config f.unicode casei) (chars text) kind
 IsProblemAt f casei source text span problem.Empty =
-    (set : CharacterSet) × IsMeaningOf (class_config f.unicode casei) (chars text) (Characters set)
+    IsAll source span
+    × (set : CharacterSet) × IsMeaningOf (class_config f.unicode casei) (chars text) (Characters set)
     × ((c : ℕ) → has_character set c ≡ false)
 IsProblemAt f casei source text span problem.DuplicateCharacters = IsNeedless f casei source span
+IsProblemAt f casei source text span (problem.SuspiciousClass look) = IsSuspicious f casei source span look
 IsProblemAt f casei source text span (problem.SuspiciousRange first last) = IsMixedRange f source span first last
-IsProblemAt f casei source text span (problem.SuspiciousClass look) = ⊥
 IsProblemAt f casei source text span (problem.SubsumedBranch other branch) = ⊥
 
 -- each finding is a problem of the class
@@ -59,3 +112,7 @@ AreProblems f casei source text = All (λ finding. IsProblemAt f casei source te
 abbrev pub KeepsProblems : Flags → Bool → List ℕ → List ClassFinding → List ClassFinding → Type 0
 KeepsProblems f casei source old new =
     (text : List ℕ) → AreProblems f casei source text old → AreProblems f casei source text new
+
+-- one of the findings is of a part that can be left out
+abbrev pub HasNeedless : List ClassFinding → Type 0
+HasNeedless = Any (λ finding. finding.problem ≡ problem.DuplicateCharacters)

@@ -31,6 +31,14 @@ abbrev pub IsCutAt : Span → List ℕ → List ℕ → List ℕ → List ℕ �
 IsCutAt span text before part after =
     (text ≡ before ++ (part ++ after)) × (length before ≡ span.start) × (length before + length part ≡ span.end)
 
+-- the text has this part at the span
+abbrev pub IsTextAt : List ℕ → Span → List ℕ → Type 0
+IsTextAt text span part = (before after : List ℕ) × IsCutAt span text before part after
+
+-- the span is that of the whole text
+abbrev pub IsAll : List ℕ → Span → Type 0
+IsAll text span = (span.start ≡ 0) × (span.end ≡ length text)
+
 -- what is left of the text without the part at the span
 abbrev pub LeavesOut : List ℕ → Span → List ℕ → Type 0
 LeavesOut text span kept =

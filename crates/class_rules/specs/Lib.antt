@@ -3,3 +3,6 @@ pub mod ClassProblems
 pub mod Subsumed
 pub mod Beginnings
 pub mod KnownClasses
+pub mod Nodes
+pub mod ClassFindings
+pub mod Branches

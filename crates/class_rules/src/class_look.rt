@@ -1,8 +1,12 @@
 //! What a class with needless items is likely meant as.
+ghost use Rattle.std.specs.Prelude.{IfOk, IfSome, IsTrue};
+ghost use Rattle.class_rules.specs.ClassProblems.{HasBar, HasNeedless, IsAfterCaret, IsBetweenColons, IsCharacterAt, IsWideRange, ShowsLook};
+
 use crate::class_items::{ClassItem, items_of, push_ranges};
 use crate::class_problem::{ClassFinding, ClassLook, ClassProblem};
 use crate::class_source::ClassSource;
 use crate::mixed_range::is_wide;
+use fancy_lex::text::next;
 use fancy_syntax::span::Span;
 use regex_class::ClassRange;
 use std::alloc::{AllocError, Global};
@@ -15,36 +19,55 @@ pub(crate) struct LookAt {
 }
 
 /// The character that the item is, if it is written as itself.
-fn plain_character(item: &ClassItem) -> Option<char> {
-    let (start, end) = item.ends?;
-    let len = item.span.end.saturating_sub(item.span.start);
-    if start == end && len == start.len_utf8() {
-        Some(start)
-    } else {
-        None
+fn plain_character(source: &str, item: ClassItem) -> Option<char>
+    ensures { IfSome result (IsCharacterAt source.now item.span) }
+{
+    let (c, rest) = next(item.span.text(source)?)?;
+    if rest.is_empty() { Some(c) } else { None }
+}
+
+/// The text after a caret, if it begins with one, and otherwise the text.
+fn after_caret(text: &str) -> &str
+    ensures { IsAfterCaret text.now result.now }
+{
+    match text.strip_prefix("^") {
+        Some(rest) => rest,
+        None => text,
     }
 }
 
-/// Whether the class begins and ends with a colon.
-fn is_between_colons(source: &str) -> bool {
-    let inside = source.strip_prefix('[').unwrap_or(source);
-    let inside = inside.strip_prefix('^').unwrap_or(inside);
-    match inside.strip_prefix(':') {
-        Some(rest) => rest.ends_with(":]"),
-        None => false,
-    }
+/// Whether the class begins with a colon, which may follow a caret, and ends with one.
+fn is_between_colons(source: &str) -> bool
+    ensures { IsTrue result → IsBetweenColons source.now }
+{
+    let Some(text) = source.strip_prefix("[") else {
+        return false;
+    };
+    let Some(rest) = after_caret(text).strip_prefix(":") else {
+        return false;
+    };
+    rest.ends_with(":]")
 }
 
 /// Whether a bar is one of the items.
-fn has_bar(items: &[ClassItem]) -> bool {
-    items.iter().any(|item| plain_character(item) == Some('|'))
+fn has_bar(source: &str, items: &[ClassItem]) -> bool
+    ensures { IsTrue result → HasBar source.now }
+{
+    for item in items {
+        if let Some(c) = plain_character(source, *item)
+            && c == '|'
+        {
+            return true;
+        }
+    }
+    false
 }
 
 /// Whether a letter or a digit is two of the items.
-fn has_twice(alloc: Global, items: &[ClassItem]) -> Result<bool, AllocError> {
+fn has_twice(alloc: Global, source: &str, items: &[ClassItem]) -> Result<bool, AllocError> {
     let mut characters = Vec::new(alloc);
     for item in items {
-        if let Some(c) = plain_character(item)
+        if let Some(c) = plain_character(source, *item)
             && c.is_alphanumeric()
         {
             characters.push(c)?;
@@ -61,10 +84,12 @@ fn has_twice(alloc: Global, items: &[ClassItem]) -> Result<bool, AllocError> {
 }
 
 /// The first range over several kinds of characters that has some of these characters.
-fn wide_range(items: &[ClassItem], ranges: &[ClassRange]) -> Option<Span> {
+fn wide_range(source: &str, items: &[ClassItem], ranges: &[ClassRange]) -> Option<Span>
+    ensures { IfSome result (IsWideRange source.now) }
+{
     for item in items {
         if let Some((start, end)) = item.ends
-            && is_wide(*item)
+            && is_wide(source, item.span)
             && ranges
                 .iter()
                 .any(|range| range.0 <= end as u32 && start as u32 <= range.1)
@@ -103,16 +128,28 @@ fn needless_ranges(
     Ok(ranges)
 }
 
+/// Whether an item can be left out.
+fn has_needless(findings: &[ClassFinding]) -> bool
+    ensures { IsTrue result → HasNeedless findings.now }
+{
+    for one in findings {
+        if matches!(one.problem, ClassProblem::DuplicateCharacters) {
+            return true;
+        }
+    }
+    false
+}
+
 /// What the class is likely meant as, which has these findings. None if none of its items can be left out, or it seems to
 /// be meant as it is.
 pub(crate) fn class_look(
     class: ClassSource<'_>,
     findings: &[ClassFinding],
-) -> Result<Option<LookAt>, AllocError> {
-    if !findings
-        .iter()
-        .any(|one| one.problem == ClassProblem::DuplicateCharacters)
-    {
+) -> Result<Option<LookAt>, AllocError>
+    ensures needless { IfOk result (λ o. IfSome o (λ _. HasNeedless findings.now)) }
+    ensures shows { IfOk result (λ o. IfSome o (λ found. ShowsLook class.entry.source.now found.span found.look)) }
+{
+    if !has_needless(findings) {
         return Ok(None);
     }
     let Some(items) = items_of(class)? else {
@@ -126,16 +163,16 @@ pub(crate) fn class_look(
         let look = ClassLook::PosixClass;
         return Ok(Some(LookAt { span, look }));
     }
-    if has_bar(&items) {
+    if has_bar(class.source, &items) {
         let look = ClassLook::Alternatives;
         return Ok(Some(LookAt { span, look }));
     }
     let ranges = needless_ranges(class, &items, findings)?;
-    if let Some(span) = wide_range(&items, &ranges) {
+    if let Some(span) = wide_range(class.source, &items, &ranges) {
         let look = ClassLook::WideRange;
         return Ok(Some(LookAt { span, look }));
     }
-    if has_twice(class.alloc, &items)? {
+    if has_twice(class.alloc, class.source, &items)? {
         let look = ClassLook::Word;
         return Ok(Some(LookAt { span, look }));
     }

@@ -1,7 +1,7 @@
 //! The classes of a run, each of which is looked at once.
-ghost use Rattle.std.specs.Prelude.{◌≡◌, [], ◌∷◌, IfOk, IfSome, IsSomeAnd, IsTrue, MatchOption, ⊤, string_bytes, slice_get};
+ghost use Rattle.std.specs.Prelude.{◌≡◌, [], ◌∷◌, IfOk, IfSome, IsSomeAnd, IsTrue, MatchOption, ⊤, length, string_bytes, slice_get};
 ghost use Rattle.fancy_lex.specs.Flags.{flags_of};
-ghost use Rattle.fancy_syntax.specs.declared.span.Span.{Span};
+ghost use Rattle.fancy_syntax.specs.Spanned.{spanned_of};
 ghost use Rattle.class_rules.specs.ClassProblems.{AreProblems};
 
 use crate::class_items::items_of;
@@ -34,8 +34,12 @@ pub(crate) struct ClassText<'a> {
 }
 
 impl<'a> ClassText<'a> {
+    ghost use Rattle.class_rules.specs.KnownClasses.{IsClassOf};
+
     /// The node as a class. Returns `None` if it is not a class.
-    pub(crate) fn of(node: SpannedNode<'a>, pattern: &'a str) -> Option<ClassText<'a>> {
+    pub(crate) fn of(node: SpannedNode<'a>, pattern: &'a str) -> Option<ClassText<'a>>
+        ensures { IfSome result (IsClassOf pattern.now (spanned_of node.entry)) }
+    {
         let Expr::Delegate { inner, casei } = node.expr() else {
             return None;
         };
@@ -91,7 +95,8 @@ struct KnownClass {
 
 /// The problem, as the only one of the whole class.
 fn one(class: ClassSource<'_>, problem: ClassProblem) -> Result<Vec<ClassFinding>, AllocError>
-    ensures { IfOk result (λ found. (span : Span) × (found.items ≡ (record { span = span; problem = problem }) ∷ [])) }
+    ensures { IfOk result (λ found. found.items ≡
+        (record { span = record { start = 0; end = length class.entry.source.now }; problem = problem }) ∷ []) }
 {
     let span = Span {
         start: 0,
@@ -210,7 +215,9 @@ impl KnownClasses {
     }
 
     /// Forgets the last class if it is long, and all if there are too many.
-    fn make_space(&mut self) {
+    fn make_space(&mut self)
+        ensures { self.new.flags ≡ self.old.flags }
+    {
         if self.classes.last().is_some_and(|last| !last.is_kept()) {
             self.classes.pop();
         }
@@ -221,7 +228,11 @@ impl KnownClasses {
     }
 
     /// The class, as one of a pattern that is parsed under these flags.
-    pub(crate) fn source_of<'c>(&self, class: ClassText<'c>) -> ClassSource<'c> {
+    pub(crate) fn source_of<'c>(&self, class: ClassText<'c>) -> ClassSource<'c>
+        ensures source { result.source.now ≡ class.entry.source.now }
+        ensures casei { result.casei ≡ class.entry.casei }
+        ensures flags { result.flags ≡ flags_of self.now.flags }
+    {
         ClassSource {
             alloc: self.alloc,
             source: class.source,
@@ -245,7 +256,8 @@ impl KnownClasses {
 
     /// Adds the class, and returns its index.
     fn add(&mut self, class: ClassText<'_>) -> Result<usize, AllocError>
-        ensures { IfOk result (λ i. IsSomeAnd (slice_get self.new.classes.items i) (IsOf class.entry self.old.flags)) }
+        ensures flags { self.new.flags ≡ self.old.flags }
+        ensures class { IfOk result (λ i. IsSomeAnd (slice_get self.new.classes.items i) (IsOf class.entry self.old.flags)) }
     {
         let known = KnownClass::of(self.alloc, class, self.flags)?;
         self.make_space();
@@ -258,8 +270,9 @@ impl KnownClasses {
     }
 
     /// The index of the class, which is added if it is not known.
-    fn index_of(&mut self, class: ClassText<'_>) -> Result<usize, AllocError>
-        ensures { IfOk result (λ i. IsSomeAnd (slice_get self.new.classes.items i) (IsOf class.entry self.old.flags)) }
+    pub(crate) fn index_of(&mut self, class: ClassText<'_>) -> Result<usize, AllocError>
+        ensures flags { self.new.flags ≡ self.old.flags }
+        ensures class { IfOk result (λ i. IsSomeAnd (slice_get self.new.classes.items i) (IsOf class.entry self.old.flags)) }
     {
         match self.find(class) {
             Some(index) => Ok(index),
@@ -267,8 +280,8 @@ impl KnownClasses {
         }
     }
 
-    /// What is wrong with the class of this index.
-    fn findings_at(&self, index: usize) -> &[ClassFinding]
+    /// What is wrong with the class of this index. The spans are in its text in the pattern.
+    pub(crate) fn findings_at(&self, index: usize) -> &[ClassFinding]
         ensures { MatchOption (slice_get self.now.classes.items index) ⊤ (λ known. result.now ≡ known.findings.items) }
     {
         match self.classes.get(index) {
@@ -277,22 +290,15 @@ impl KnownClasses {
         }
     }
 
-    /// What is wrong with the class. The spans are in its text in the pattern.
-    pub(crate) fn findings(&mut self, class: ClassText<'_>) -> Result<&[ClassFinding], AllocError>
-        ensures { IfOk result (λ found. ∥ AreProblems (flags_of self.old.flags) class.entry.casei
-            class.entry.source.now class.entry.text.now found.now ∥₁) }
-    {
-        let index = self.index_of(class)?;
-        Ok(self.findings_at(index))
-    }
-
     /// The characters of the class of this index, unless the engine refuses it.
     fn characters_at(&self, index: usize) -> Option<&CharacterSet> {
         self.classes.get(index)?.set.as_ref()
     }
 
     /// Whether the class contains the character.
-    pub(crate) fn contains(&mut self, class: ClassText<'_>, c: char) -> Result<bool, AllocError> {
+    pub(crate) fn contains(&mut self, class: ClassText<'_>, c: char) -> Result<bool, AllocError>
+        ensures { self.new.flags ≡ self.old.flags }
+    {
         let index = self.index_of(class)?;
         match self.characters_at(index) {
             Some(set) => Ok(set.contains(c)),
@@ -305,7 +311,9 @@ impl KnownClasses {
         &mut self,
         class: ClassText<'_>,
         part: ClassText<'_>,
-    ) -> Result<bool, AllocError> {
+    ) -> Result<bool, AllocError>
+        ensures { self.new.flags ≡ self.old.flags }
+    {
         let index = self.index_of(class)?;
         let part = self.index_of(part)?;
         match (self.characters_at(index), self.characters_at(part)) {

@@ -1,10 +1,11 @@
 //! Ranges from one kind of character to another.
 ghost use Rattle.std.specs.Prelude.{◌≡◌, [], ◌∷◌, IfOk, IfSome, IsTrue, OnOk};
-ghost use Rattle.class_rules.specs.ClassProblems.{IsRangeAt, IsMixedRange, KeepsProblems};
+ghost use Rattle.class_rules.specs.ClassProblems.{AreOfSeveralKinds, IsBetween, IsRangeAt, IsMixedRange, IsPlainRange, IsWideRange, KeepsProblems};
 
 use crate::class_items::ClassItem;
 use crate::class_problem::{CharacterKind, ClassFinding, ClassProblem};
 use crate::class_source::{ClassSource, characters_of_source, in_brackets};
+use fancy_lex::text::next;
 use fancy_syntax::span::Span;
 use regex_class::ClassRange;
 use std::alloc::AllocError;
@@ -52,14 +53,48 @@ fn is_plain(span: Span, start: char, end: char) -> bool {
     span.end.saturating_sub(span.start) == ends.saturating_add(1)
 }
 
-/// Whether the item is a range over several kinds of characters, no end of which is written as an escape.
-pub(crate) fn is_wide(item: ClassItem) -> bool {
-    let Some((start, end)) = item.ends else {
+/// The ends of the range that the text is, if no end is written as an escape.
+fn plain_range(text: &str) -> Option<(char, char)>
+    ensures { IfSome result (λ ends. IsPlainRange text.now ends.0 ends.1) }
+{
+    let (start, rest) = next(text)?;
+    let (hyphen, rest) = next(rest)?;
+    let (end, rest) = next(rest)?;
+    if hyphen == '-' && rest.is_empty() {
+        Some((start, end))
+    } else {
+        None
+    }
+}
+
+/// Whether the character is between the two, and neither of them.
+fn is_between(c: char, start: char, end: char) -> bool
+    ensures { IsTrue result → IsBetween start end c }
+{
+    start < c && c < end
+}
+
+/// Whether from the one character to the other are characters of several kinds.
+fn are_of_several_kinds(start: char, end: char) -> bool
+    ensures { IsTrue result → AreOfSeveralKinds start end }
+{
+    if CharacterKind::of(start) != CharacterKind::of(end) {
+        return true;
+    }
+    is_between('0', start, end) || is_between('A', start, end) || is_between('a', start, end)
+}
+
+/// Whether the part at the span is a range over several kinds of characters, no end of which is written as an escape.
+pub(crate) fn is_wide(source: &str, span: Span) -> bool
+    ensures { IsTrue result → IsWideRange source.now span }
+{
+    let Some(text) = span.text(source) else {
         return false;
     };
-    let is_mixed = CharacterKind::of(start) != CharacterKind::of(end);
-    let has_kind_inside = ['0', 'A', 'a'].iter().any(|c| start < *c && *c < end);
-    is_plain(item.span, start, end) && (is_mixed || has_kind_inside)
+    match plain_range(text) {
+        Some((start, end)) => are_of_several_kinds(start, end),
+        None => false,
+    }
 }
 
 /// The kinds of the ends of the item, if it is a range between characters of different kinds, neither of which is

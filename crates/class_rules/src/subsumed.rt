@@ -1,6 +1,10 @@
 //! Branches of one character that another branch contains.
-ghost use Rattle.std.specs.Prelude.{IfOk, IfSome, IsTrue};
+ghost use Rattle.std.specs.Prelude.{◌≡◌, ◌<◌, ◌^◌, length, slice_get, IfOk, IfSome, IsTrue, OnOk};
+ghost use Rattle.fancy_lex.specs.Flags.{flags_of};
+ghost use Rattle.fancy_syntax.specs.Spanned.{Spanned, spanned_of, spanned_children};
 ghost use Rattle.fancy_syntax.specs.View.{view};
+ghost use Rattle.class_rules.specs.Branches.{AreBranchesOf, IsBranchOf, IsWithin};
+ghost use Rattle.class_rules.specs.ClassFindings.{IsContained, KeepsFound};
 ghost use Rattle.class_rules.specs.Subsumed.{MatchesOne, IsSubsumed};
 
 use crate::class_problem::{ClassFinding, ClassProblem};
@@ -82,16 +86,31 @@ pub(crate) fn is_one_character(node: SpannedNode<'_>) -> bool {
 fn one_character_branches<'a>(
     alloc: Global,
     alternation: SpannedNode<'a>,
-) -> Result<Vec<OneCharacterBranch<'a>>, AllocError> {
+) -> Result<Vec<OneCharacterBranch<'a>>, AllocError>
+    ensures { length (spanned_children (spanned_of alternation.entry)) < 2 ^ 64 →
+        IfOk result (λ branches. AreBranchesOf (spanned_of alternation.entry) branches.items) }
+{
     let mut branches = Vec::new(alloc);
     let mut index = 0usize;
     for node in alternation.children() {
-        if is_one_character(node) {
-            branches.push(OneCharacterBranch { index, node })?;
-        }
+        let branch = OneCharacterBranch { index, node };
         index = index.saturating_add(1);
+        if !is_one_character(node) {
+            continue;
+        }
+        branches.push(branch)?;
     }
     Ok(branches)
+}
+
+/// The branch at this position among these.
+fn branch_at<'a>(
+    branches: &[OneCharacterBranch<'a>],
+    position: usize,
+) -> Option<OneCharacterBranch<'a>>
+    ensures { result ≡ slice_get branches.now position }
+{
+    branches.get(position).copied()
 }
 
 /// Where among these the first classes and dots are.
@@ -111,7 +130,10 @@ fn classes_among(
 /// Whether the branch can be left out, if the other one matches its character too: a later one can, and an earlier one
 /// if each branch between the two matches one character.
 fn can_be_left_out(branches: &[OneCharacterBranch<'_>], position: usize, other: usize) -> bool {
-    let (Some(branch), Some(containing)) = (branches.get(position), branches.get(other)) else {
+    let (Some(branch), Some(containing)) = (
+        branch_at(branches, position),
+        branch_at(branches, other),
+    ) else {
         return false;
     };
     other < position
@@ -132,7 +154,9 @@ pub(crate) fn may_contain(
     pattern: &str,
     one: SpannedNode<'_>,
     other: SpannedNode<'_>,
-) -> Result<bool, AllocError> {
+) -> Result<bool, AllocError>
+    ensures { known.new.flags ≡ known.old.flags }
+{
     if let Expr::Literal { val, casei } = other.expr() {
         return Ok(literal_may_contain(one.expr(), val.as_str(), *casei));
     }
@@ -159,7 +183,10 @@ fn is_contained(
     pattern: &str,
     one: OneCharacterBranch<'_>,
     other: OneCharacterBranch<'_>,
-) -> Result<bool, AllocError> {
+) -> Result<bool, AllocError>
+    ensures flags { known.new.flags ≡ known.old.flags }
+    ensures within { IfOk result (λ b. IsTrue b → IsWithin (flags_of known.old.flags).unicode one.entry other.entry) }
+{
     let unicode = known.is_unicode();
     let (tree, containing) = (one.node.expr(), other.node.expr());
     if *tree == *containing || !may_contain(known, pattern, one.node, other.node)? {
@@ -183,25 +210,28 @@ struct OneCharacterBranches<'a> {
 }
 
 impl OneCharacterBranches<'_> {
-    /// The number of the class, counted from 1, that contains the branch at the position, and its span.
+    /// The number of the class, counted from 1, that contains the branch, which is at the position, and its span.
     fn containing(
         &self,
+        branch: OneCharacterBranch<'_>,
         position: usize,
         pattern: &str,
         known: &mut KnownClasses,
         alloc: Global,
-    ) -> Result<Option<ClassProblem>, AllocError> {
-        let Some(branch) = self.branches.get(position).copied() else {
-            return Ok(None);
-        };
+    ) -> Result<Option<ClassProblem>, AllocError>
+        ensures flags { known.new.flags ≡ known.old.flags }
+        ensures contained { IfOk result (λ o. IfSome o (λ problem. (node : Spanned) →
+            AreBranchesOf node self.now.branches.items → IsBranchOf node branch.entry →
+            IsContained (flags_of known.old.flags).unicode node branch.entry.index (spanned_of branch.entry.node) problem)) }
+    {
         for other in &self.classes {
-            let Some(class) = self.branches.get(*other).copied() else {
+            let Some(class) = branch_at(&self.branches, *other) else {
                 continue;
             };
-            if *other != position
-                && can_be_left_out(&self.branches, position, *other)
-                && is_contained(alloc, known, pattern, branch, class)?
-            {
+            if *other == position || !can_be_left_out(&self.branches, position, *other) {
+                continue;
+            }
+            if is_contained(alloc, known, pattern, branch, class)? {
                 return Ok(Some(ClassProblem::SubsumedBranch {
                     other: class.index.saturating_add(1),
                     span: class.node.span(),
@@ -212,26 +242,35 @@ impl OneCharacterBranches<'_> {
     }
 }
 
-/// Adds the branches of the alternation that another one contains.
+/// Adds the branches of the node that another one contains, if it is an alternation.
 pub(crate) fn add_subsumed(
-    alternation: SpannedNode<'_>,
+    node: SpannedNode<'_>,
     pattern: &str,
     known: &mut KnownClasses,
     found: &mut Vec<ClassFinding>,
-) -> Result<(), AllocError> {
+) -> Result<(), AllocError>
+    ensures flags { known.new.flags ≡ known.old.flags }
+    ensures problems { OnOk result (KeepsFound (flags_of known.old.flags) pattern.now (spanned_of node.entry)
+        found.old.items found.new.items) }
+{
+    let Expr::Alt(_) = node.expr() else {
+        return Ok(());
+    };
     let alloc = *found.allocator();
-    let branches = one_character_branches(alloc, alternation)?;
+    let branches = one_character_branches(alloc, node)?;
     let classes = classes_among(alloc, &branches)?;
     let compared = OneCharacterBranches { branches, classes };
     for position in 0..compared.branches.len() {
-        if let Some(problem) = compared.containing(position, pattern, known, alloc)?
-            && let Some(branch) = compared.branches.get(position)
-        {
-            found.push(ClassFinding {
-                span: branch.node.span(),
-                problem,
-            })?;
-        }
+        let Some(branch) = branch_at(&compared.branches, position) else {
+            continue;
+        };
+        let Some(problem) = compared.containing(branch, position, pattern, known, alloc)? else {
+            continue;
+        };
+        found.push(ClassFinding {
+            span: branch.node.span(),
+            problem,
+        })?;
     }
     Ok(())
 }

@@ -1,9 +1,11 @@
-//! The code of `docs/library.md`: each module is a part of that page, and `show_examples` writes what they return.
+//! The code of `docs/library.md`, of which each module is a part, and in `many_ways` calls that no other program makes.
+//! `show_examples` writes what they return.
 mod changes;
 mod class_members;
 mod comments;
 mod errors;
 mod groups;
+mod many_ways;
 mod positions;
 mod printing;
 mod proved;
@@ -12,10 +14,11 @@ mod summary;
 mod walks;
 
 use crate::examples::changes::{replace_child, with_child};
-use crate::examples::class_members::members;
+use crate::examples::class_members::{have_common, members};
 use crate::examples::comments::push_comments;
 use crate::examples::errors::{INVALID, first_error};
 use crate::examples::groups::{calls_nothing, group_named};
+use crate::examples::many_ways::{word_across, word_of_two_ways};
 use crate::examples::positions::pointed;
 use crate::examples::printing::in_a_row;
 use crate::examples::proved::{formatted, group_count};
@@ -128,6 +131,24 @@ fn show_members(rt: &HostRuntime, pattern: &str) -> Result<()> {
     Ok(())
 }
 
+fn show_common(rt: &HostRuntime, first: &str, second: &str) -> Result<()> {
+    if let Some(common) = have_common(rt.alloc(), first, second)? {
+        println!(rt; "{first} and {second} have a character in common: {common}")?;
+    }
+    Ok(())
+}
+
+fn show_ways(rt: &HostRuntime, pattern: &str) -> Result<()> {
+    match word_of_two_ways(rt.alloc(), pattern)? {
+        Some(word) => println!(rt; "(?:{pattern})+ matches {word} in two ways")?,
+        None => println!(rt; "(?:{pattern})+ matches no word in two ways")?,
+    }
+    if let Some(word) = word_across(rt.alloc(), pattern)? {
+        println!(rt; "(?:{pattern})+(?:{pattern})+ matches repetitions of {word} in many ways")?;
+    }
+    Ok(())
+}
+
 fn show_proved(rt: &HostRuntime, pattern: &str) -> Result<()> {
     println!(rt;
         "{pattern} has {} groups",
@@ -163,5 +184,9 @@ pub(crate) fn show_examples(rt: &HostRuntime) -> Result<()> {
     for pattern in CLASSES.iter() {
         show_members(rt, pattern)?;
     }
+    show_common(rt, "[a-c]", "[c-e]")?;
+    show_common(rt, "[a-c]", "[d-f]")?;
+    show_ways(rt, "a|a")?;
+    show_ways(rt, "ab")?;
     show_proved(rt, "(?<n>a)(?#c)b")
 }

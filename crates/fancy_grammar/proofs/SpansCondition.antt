@@ -13,7 +13,7 @@ use Rattle.fancy_lex.proofs.TextLemmas.{strip_is, strip_word_is}
 use Rattle.fancy_lex.specs.Characters.{◌∈◌}
 use Rattle.fancy_lex.specs.Delimited.{name_before, delimited_name, of_name}
 use Rattle.fancy_lex.specs.Id.{nonempty_front}
-use Rattle.fancy_lex.specs.LayoutSteps.{Skipped, rest, rest_of, failed as open_comment, layout}
+use Rattle.fancy_lex.specs.LayoutSteps.{Skipped, rest, rest_of, failed as open_comment, layout, past_layout}
 use Rattle.fancy_lex.specs.Reading.{Reading, gives, fails, choose}
 use Rattle.fancy_lex.specs.Referred.{Reference, name_reading, reference_by_name, written_reference}
 use Rattle.fancy_lex.specs.Text.{Text, EndsWith, bytes, reach_of, cut_at, strip, strip_word}
@@ -104,7 +104,7 @@ closes_verb t =
 -- ---- the start of an atom
 
 -- a condition that is no alternation is a leaf, and o is its text, which ends with its parenthesis
-abbrev HasConditionText : Option Text → AtomStart → Type 0
+abbrev pub HasConditionText : Option Text → AtomStart → Type 0
 HasConditionText o (body c v) = (w : Text) × (o ≡ Some w) × ((l : Leaf) × (c ≡ leaf l)) × Closes w v.rest
 HasConditionText o _ = Unit {0}
 
@@ -171,14 +171,57 @@ has_text_group s u =
 
 -- ---- where it is
 
+pub condition_there : (d : ℕ) (s : State) → HasConditionText (condition_text s) (atom_start d s)
+unfolding atom_start
+condition_there d s = by_text s.rest refl
+  where
+    P : AtomStart → Type 0
+    P = HasConditionText (condition_text s)
+
+    by_layout : (t : Text) → s.rest ≡ code "(" ∷ t → (k : Skipped) → layout s.flags.ignore_space t ≡ k →
+        P (after_skipped k (group_start s) error_start)
+    by_layout t e (rest u) l =
+        let text : condition_text s ≡ strip_word (codes "?(") u =
+        ap (λ z. option_and_then (strip_word (codes "?("))
+        (option_and_then (λ v. rest_of (layout s.flags.ignore_space v)) (strip (code "(") z))) e
+        ∙ ap (λ k. option_and_then (strip_word (codes "?(")) (rest_of k)) l in
+        subst (λ o. HasConditionText o (group_start s u)) (sym text) (has_text_group s u)
+    by_layout t e (open_comment p) l = tt
+
+    by_text : (t : Text) → s.rest ≡ t → P (start_of d s t)
+    by_text [] e = tt
+    by_text (c ∷ t) e =
+        cond_both (c == code "(") _ _ P (λ i.
+        cond_both (nat_le max_depth (d + 1)) _ _ P (λ _. tt)
+        (λ _. by_layout t (e ∙ ap (λ b. b ∷ t) (is_paren i)) (skipped (at s t)) refl)) (λ _.
+        cond_both (begins_no_atom c) _ _ P (λ _. tt) (λ _. tt))
+      where
+        is_paren : (c == code "(") ≡ true → c ≡ code "("
+        is_paren i = grind (arith, nat_tests)
+
+condition_slice : (s : State) (w : Text) → condition_text s ≡ Some w → Slice s.rest w
+condition_slice s w = by_paren (strip (code "(") s.rest) refl
+  where
+    by_layout : (t : Text) → Slice s.rest t → (k : Skipped) → SkippedSlice t k →
+        option_and_then (strip_word (codes "?(")) (rest_of k) ≡ Some w → Slice s.rest w
+    by_layout t a (rest u) b e = on (on a b) (record { word = codes "?("; cut = strip_word_is (codes "?(") u w e })
+    by_layout t a (open_comment p) b e = cc
+
+    by_paren : (o : Option Text) → strip (code "(") s.rest ≡ o → option_and_then (strip_word (codes "?("))
+        (option_and_then (past_layout s.flags.ignore_space) o) ≡ Some w → Slice s.rest w
+    by_paren None i e = cc
+    by_paren (Some t) i e =
+        by_layout t (record { word = code "(" ∷ []; cut = strip_is (code "(") s.rest t i })
+        (layout s.flags.ignore_space t) (layout_slice s.flags.ignore_space t) e
+
 module _ (named : Bool) where
   abbrev pub ConditionLies : State → AtomStart → Type 0
   ConditionLies s (body c t) = Lies named s.rest t.rest c (alone (condition_span s t))
   ConditionLies s _ = Unit {0}
 
   pub condition_lies : (d : ℕ) (s : State) → ConditionLies s (atom_start d s)
-  unfolding atom_start bytes
-  condition_lies d s = by_text s.rest refl
+  unfolding bytes
+  condition_lies d s = by_start (atom_start d s) (condition_there d s)
     where
       positioned : (w : Text) (v : State) → condition_text s ≡ Some w →
           reaches w (code ")" ∷ v.rest) ≡ condition_span s v
@@ -188,37 +231,14 @@ module _ (named : Bool) where
           omega (arith, len_utf8_ascii (code ")") (omega arith)) in
           λ i. record { start = start i; end = end i }
 
-      by_start : (u : Text) → Slice s.rest u → condition_text s ≡ strip_word (codes "?(") u → (k : AtomStart) →
-          HasConditionText (strip_word (codes "?(") u) k → ConditionLies s k
-      by_start u a e (body c v) (w, i, (l, j), h) =
-          let cut : Slice u w = record { word = codes "?("; cut = strip_word_is (codes "?(") u w i } in
-          subst (λ p. Lies named s.rest v.rest c (alone p)) (positioned w v (e ∙ i))
+      by_start : (k : AtomStart) → HasConditionText (condition_text s) k → ConditionLies s k
+      by_start (body c v) (w, i, (l, j), h) =
+          subst (λ p. Lies named s.rest v.rest c (alone p)) (positioned w v i)
           (subst (λ r. Lies named s.rest v.rest r (alone (reaches w (code ")" ∷ v.rest)))) (sym j)
-          (leaf_at (on a cut) (record { word = h.0; cut = h.1 }) (record { word = code ")" ∷ []; cut = refl })))
-      by_start u a e nothing h = tt
-      by_start u a e (read q) h = tt
-      by_start u a e (of_kind g v) h = tt
-      by_start u a e (condition v) h = tt
-      by_start u a e (absent_branch v) h = tt
-
-      by_layout : (t : Text) → s.rest ≡ code "(" ∷ t → (k : Skipped) → layout s.flags.ignore_space t ≡ k →
-          SkippedSlice t k → ConditionLies s (after_skipped k (group_start s) error_start)
-      by_layout t e (rest u) l i =
-          by_start u (on (record { word = code "(" ∷ []; cut = e }) i)
-          (ap (λ z. option_and_then (strip_word (codes "?("))
-          (option_and_then (λ v. rest_of (layout s.flags.ignore_space v)) (strip (code "(") z))) e
-          ∙ ap (λ k. option_and_then (strip_word (codes "?(")) (rest_of k)) l)
-          (group_start s u) (has_text_group s u)
-      by_layout t e (open_comment p) l i = tt
-
-      by_text : (t : Text) → s.rest ≡ t → ConditionLies s (start_of d s t)
-      by_text [] e = tt
-      by_text (c ∷ t) e =
-          cond_both (c == code "(") _ _ (ConditionLies s) (λ i.
-          cond_both (nat_le max_depth (d + 1)) _ _ (ConditionLies s) (λ _. tt)
-          (λ _. by_layout t (e ∙ ap (λ b. b ∷ t) (is_paren i)) (skipped (at s t)) refl
-          (layout_slice s.flags.ignore_space t))) (λ _.
-          cond_both (begins_no_atom c) _ _ (ConditionLies s) (λ _. tt) (λ _. tt))
-        where
-          is_paren : (c == code "(") ≡ true → c ≡ code "("
-          is_paren i = grind (arith, nat_tests)
+          (leaf_at (condition_slice s w i) (record { word = h.0; cut = h.1 })
+          (record { word = code ")" ∷ []; cut = refl })))
+      by_start nothing h = tt
+      by_start (read q) h = tt
+      by_start (of_kind g v) h = tt
+      by_start (condition v) h = tt
+      by_start (absent_branch v) h = tt

@@ -4,12 +4,10 @@ use Rattle.std.proofs.Common.{codes, Option, Some, None, option_map, refl, ap, s
 use Rattle.std.proofs.lemmas.Bool.Decides.{nat_tests}
 use Prim.Native.Char.{code}
 use Rattle.fancy_lex.specs.declared.escape.Assertion.{Assertion}
-use Rattle.fancy_lex.specs.declared.error.ReadError.{ReadError}
-use Rattle.fancy_lex.specs.declared.error.ReadError.TheVariants.{At, OutOfMemory}
 use Rattle.fancy_lex.specs.BoundarySteps.{name}
 use Rattle.fancy_lex.specs.Located.{invalid_escape}
-use Rattle.fancy_lex.specs.ErrorTable.{boundary_start}
-use Rattle.fancy_lex.specs.Reading.{Reading, gives, fails, error_at, ◌>=>◌, layout_reading, Says, Reports}
+use Rattle.fancy_lex.specs.ErrorTable.{boundary_start, comment_not_closed}
+use Rattle.fancy_lex.specs.Reading.{Reading, gives, fails, error_at, ◌>=>◌, layout_reading}
 use Rattle.fancy_lex.specs.LayoutSteps.{Skipped, rest, failed, layout, past_layout}
 use Rattle.fancy_lex.specs.Text.{Text, strip}
 use Rattle.fancy_lex.proofs.LayoutLaws.{layout_length}
@@ -74,12 +72,11 @@ same_after (fails e) f g h = refl
 
 -- one step of the name that an error reports
 module _ (x : Bool) (p : ℕ) (out t : Text) where
-  pub name_error_open : (k : ℕ) (b : ReadError) → 0 < k → Says b (layout_reading (layout x t)) →
-      Reports b (name_error_after x p out k t)
+  pub name_error_comment : (k q : ℕ) → 0 < k → layout x t ≡ failed q →
+      name_error_after x p out k t ≡ fails (comment_not_closed q)
   unfolding name_error_after name
-  name_error_open zero b l e = absurd (omega arith)
-  name_error_open (suc k) (At q d) l e = rw e refl
-  name_error_open (suc k) OutOfMemory l e = absurd e
+  name_error_comment zero q l e = absurd (omega arith)
+  name_error_comment (suc k) q l e = rw e refl
 
   pub name_error_end : (k : ℕ) (u : Text) → layout_reading (layout x t) ≡ gives tt u → u ≡ [] →
       name_error_after x p out k t ≡ error_at p (invalid_escape (codes "\\b{...}"))

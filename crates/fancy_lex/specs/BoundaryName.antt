@@ -2,11 +2,13 @@
 use Rattle.std.specs.Prelude.{ℕ, suc, Bool, List, [], ◌∷◌, ◌++◌, length, codes, Option, Some, None, option_and_then}
 use Prim.Native.Char.{code}
 use Rattle.fancy_lex.specs.declared.escape.Assertion.{Assertion}
+use Rattle.fancy_lex.specs.declared.escape.boundary.NotClosed.{NotClosed}
+use Rattle.fancy_lex.specs.declared.escape.boundary.NotClosed.TheVariants.{Comment, Braces}
 use Rattle.fancy_lex.specs.Boundary.{boundary_names}
 use Rattle.fancy_lex.specs.BoundarySteps.{name}
 use Rattle.fancy_lex.specs.Escaped.{Escape}
-use Rattle.fancy_lex.specs.Located.{invalid_escape}
-use Rattle.fancy_lex.specs.ErrorTable.{boundary_start}
+use Rattle.fancy_lex.specs.Located.{Located, invalid_escape}
+use Rattle.fancy_lex.specs.ErrorTable.{boundary_start, comment_not_closed, boundary_not_closed}
 use Rattle.fancy_lex.specs.LayoutSteps.{past_layout}
 use Rattle.fancy_lex.specs.Reading.{Reading, error_at, ◌>=>◌, choose}
 use Rattle.fancy_lex.specs.Text.{Text, strip}
@@ -32,3 +34,8 @@ name_error_after x p out k t = name x p k t >=> (λ w v. error_at p (invalid_esc
 -- the same with the opening of the boundary before the name
 unfoldable pub name_error : Bool → ℕ → Bool → Text → Reading Escape
 name_error x p negated t = name_error_after x p (boundary_start negated) (suc (length t)) t
+
+-- the error of a name without a closing brace, for the code's cause
+abbrev pub not_closed : ℕ → NotClosed → Located
+not_closed p (Comment q) = comment_not_closed q
+not_closed p Braces = boundary_not_closed p

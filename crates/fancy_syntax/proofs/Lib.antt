@@ -41,3 +41,4 @@ pub mod PrintLemmas
 mod EmptyLemmas
 -- ---- trees with spans
 pub mod SpannedLemmas
+pub mod NodeLemmas

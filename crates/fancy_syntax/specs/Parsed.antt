@@ -1,5 +1,6 @@
 -- How the results of the parser's readers correspond to the grammar's.
 use Rattle.std.specs.Prelude.{◌≡◌, ℕ, ◌+◌, ◌<◌, List, None, option_map, chars, length, Result, MatchResult, ⊤}
+use Rattle.fancy_lex.specs.Text.{Text, reach_of}
 use Rattle.fancy_lex.specs.declared.error.ReadError.{ReadError}
 use Rattle.fancy_grammar.specs.AtomStart.{AtomStart, nothing, read, of_kind, condition, body, absent_branch}
 use Rattle.fancy_grammar.specs.Depth.{max_depth}
@@ -55,7 +56,7 @@ view_start Nothing s = nothing
 view_start (Read atom) s = read (done (view atom) s)
 view_start (Group h) s = of_kind (group_kind h) s
 view_start Condition s = condition s
-view_start (Body c) s = body (view c.value) s
+view_start (Body c start) s = body (view c.value) s
 view_start AbsentBranch s = absent_branch s
 
 -- what the parser finds at the start of an atom is what the grammar has there
@@ -76,6 +77,11 @@ TakesBytes _ t u = length u < length t
 abbrev pub IsSomething : declared.AtomStart → Type 0
 IsSomething Nothing = ⊥
 IsSomething _ = ⊤
+
+-- a condition that is no alternation begins at the text
+abbrev pub HasConditionAt : declared.AtomStart → Text → Type 0
+HasConditionAt (Body c start) t = start ≡ reach_of t
+HasConditionAt _ t = ⊤
 
 -- a group is found only if one may open inside d groups
 abbrev pub IsBelow : declared.AtomStart → ℕ → Type 0

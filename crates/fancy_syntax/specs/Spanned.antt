@@ -1,8 +1,9 @@
 -- A node with the spans of all its nodes, and those of its children.
 use Rattle.std.specs.Prelude.{◌≡◌, ℕ, suc, List, [], ◌∷◌, ◌++◌, length, take, drop}
+use Rattle.std.specs.List.{IsAmong}
 use Rattle.fancy_grammar.specs.Label as label
 use Rattle.fancy_grammar.specs.Tree.{Tree, leaf, over, row, Trees, no_trees, more_trees}
-use Rattle.fancy_syntax.specs.Children.{remaining_children}
+use Rattle.fancy_syntax.specs.Children.{children_of, remaining_children}
 use Rattle.fancy_syntax.specs.View.{view}
 use Rattle.fancy_syntax.specs.declared.expr.Expr.{Expr}
 use Rattle.fancy_syntax.specs.declared.span.Span.{Span}
@@ -56,6 +57,15 @@ side_by_side [] s n = []
 side_by_side (e ∷ es) s n =
     (record { expr = e; spans = take (first_size n) s; sizes = take (first_size n) n })
     ∷ side_by_side es (drop (first_size n) s) (drop (first_size n) n)
+
+-- the children of a node, with the spans of each
+abbrev pub spanned_children : Spanned → List Spanned
+spanned_children p = side_by_side (children_of p.expr) (drop 1 p.spans) (drop 1 p.sizes)
+
+-- p is a node of the tree whose root is q
+pub data IsNodeOf (p : Spanned) : Spanned → Type 0 where
+  root : IsNodeOf p p
+  below : {q c : Spanned} → IsAmong (spanned_children q) c → IsNodeOf p c → IsNodeOf p q
 
 -- the children that an iterator has still to return
 abbrev pub remaining_spanned : SpannedChildren → List Spanned

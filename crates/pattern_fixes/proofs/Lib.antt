@@ -1,3 +1,4 @@
 mod SetLemmas
 mod GroupLemmas
 mod FixedLemmas
+mod MatchesLemmas

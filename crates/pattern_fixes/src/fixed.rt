@@ -1,5 +1,5 @@
 //! Patterns with their reports fixed.
-ghost use Rattle.std.specs.Prelude.{◌≡◌, map, string_bytes, IfOk, IfSome, IsTrue};
+ghost use Rattle.std.specs.Prelude.{◌≡◌, chars, map, string_bytes, IfOk, IfSome, IsTrue};
 ghost use Rattle.fancy_lex.specs.Flags.{flags_of};
 ghost use Rattle.fancy_syntax.specs.InfoViews.{info_of};
 ghost use Rattle.fancy_syntax.specs.View.{view};
@@ -7,6 +7,7 @@ ghost use Rattle.fancy_grammar.specs.Trivia.{comment_texts};
 ghost use Rattle.fancy_syntax.specs.TriviaViews.{trivium_of};
 ghost use Rattle.pattern_fixes.specs.Edits as spec;
 ghost use Rattle.pattern_fixes.specs.Fixed.{IsFixedText};
+ghost use Rattle.pattern_fixes.specs.KeepsMatches.{KeepsMatches};
 
 use crate::edit::{Edit, FixableReport, edit_of};
 use crate::edits::{apart, with_edit, with_edits};
@@ -37,9 +38,11 @@ pub struct ParsedPattern<'p, 't> {
 impl<'p> ParsedPattern<'p, '_> {
     /// Whether the text is parsed, with the same group information, to the tree of the pattern with some reports fixed.
     fn is_fixed_as(&self, text: &str) -> Result<bool, AllocError>
-        ensures { IfOk result (λ b. IsTrue b → IsFixedText (flags_of self.now.flags) text.now
+        ensures fixed { IfOk result (λ b. IsTrue b → IsFixedText (flags_of self.now.flags) text.now
             (view self.now.tree.now.expr) (info_of self.now.tree.now)
             (comment_texts self.now.pattern.now (map trivium_of self.now.trivia.now))) }
+        ensures matches { IfOk result (λ b. IsTrue b → KeepsMatches (flags_of self.now.flags) (chars text.now)
+            (view self.now.tree.now.expr) (info_of self.now.tree.now)) }
     {
         let (new, _, trivia) = match Expr::parse_tree_with_trivia(self.alloc, text, self.flags) {
             Ok(new) => new,
@@ -58,9 +61,11 @@ impl<'p> ParsedPattern<'p, '_> {
 
     /// The pattern with the edits made, if that fixes reports and changes nothing else.
     fn fixed_by(&self, edits: &[Edit<'_>]) -> Result<Option<String>, AllocError>
-        ensures { IfOk result (λ o. IfSome o (λ text. IsFixedText (flags_of self.now.flags) (string_bytes text)
+        ensures fixed { IfOk result (λ o. IfSome o (λ text. IsFixedText (flags_of self.now.flags) (string_bytes text)
             (view self.now.tree.now.expr) (info_of self.now.tree.now)
             (comment_texts self.now.pattern.now (map trivium_of self.now.trivia.now)))) }
+        ensures matches { IfOk result (λ o. IfSome o (λ text. KeepsMatches (flags_of self.now.flags)
+            (chars (string_bytes text)) (view self.now.tree.now.expr) (info_of self.now.tree.now))) }
     {
         let Some(text) = with_edits(self.alloc, self.pattern, edits)? else {
             return Ok(None);
@@ -81,6 +86,8 @@ impl<'p> ParsedPattern<'p, '_> {
         ensures fixed { IfOk result (λ o. IfSome o (λ edit. IsFixedText (flags_of self.now.flags)
             (spec.with_edit self.now.pattern.now edit) (view self.now.tree.now.expr) (info_of self.now.tree.now)
             (comment_texts self.now.pattern.now (map trivium_of self.now.trivia.now)))) }
+        ensures matches { IfOk result (λ o. IfSome o (λ edit. KeepsMatches (flags_of self.now.flags)
+            (chars (spec.with_edit self.now.pattern.now edit)) (view self.now.tree.now.expr) (info_of self.now.tree.now))) }
     {
         let Some(edit) = edit_of(self.pattern, report, reports) else {
             return Ok(None);
@@ -123,6 +130,8 @@ impl<'p> ParsedPattern<'p, '_> {
         ensures fixed { IfOk result (λ o. IfSome o (λ text. IsFixedText (flags_of self.now.flags) (string_bytes text)
             (view self.now.tree.now.expr) (info_of self.now.tree.now)
             (comment_texts self.now.pattern.now (map trivium_of self.now.trivia.now)))) }
+        ensures matches { IfOk result (λ o. IfSome o (λ text. KeepsMatches (flags_of self.now.flags)
+            (chars (string_bytes text)) (view self.now.tree.now.expr) (info_of self.now.tree.now))) }
     {
         let edits = self.edits(reports)?;
         if edits.is_empty() {

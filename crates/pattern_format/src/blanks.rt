@@ -1,6 +1,7 @@
 //! Blanks between tokens. Each line keeps its break and its indentation, and no blanks at its end. Other blanks become
-//! one space, but stay before a comment through the end of the line.
-use crate::token::TokenKind;
+//! one space, but stay before a column.
+use crate::sheet::Sheet;
+use crate::token::{Column, Token};
 use std::alloc::{AllocError, Global};
 
 /// Writes the line breaks that end these lines, each blank.
@@ -11,41 +12,21 @@ fn push_breaks(written: &mut String, lines: &str) -> Result<(), AllocError> {
     Ok(())
 }
 
-/// Writes blanks before a token of this kind, or at the end.
-fn push_blanks(
-    written: &mut String,
-    blanks: &str,
-    next: Option<TokenKind>,
-) -> Result<(), AllocError> {
-    if let Some((lines, indentation)) = blanks.rsplit_once('\n') {
-        push_breaks(written, lines)?;
-        written.push_str(indentation)?;
-        return Ok(());
-    }
-    let is_line_start = written.is_empty() || written.ends_with('\n');
-    if is_line_start || matches!(next, Some(TokenKind::LineComment)) {
-        written.push_str(blanks)?;
-    } else if !blanks.is_empty() && next.is_some() {
-        written.push(' ')?;
-    }
-    Ok(())
-}
-
 /// A text that tokens are added to.
 #[derive(Drop)]
 pub(crate) struct Writer<'p> {
-    written: String,
+    sheet: Sheet,
     /// The blanks after it.
     blanks: &'p str,
 }
 
 impl<'p> Writer<'p> {
     /// Nothing is written yet.
-    pub(crate) fn new(alloc: Global) -> Writer<'p> {
-        Writer {
-            written: String::new(alloc),
+    pub(crate) fn new(alloc: Global) -> Result<Writer<'p>, AllocError> {
+        Ok(Writer {
+            sheet: Sheet::new(alloc, "")?,
             blanks: "",
-        }
+        })
     }
 
     /// Adds blanks. If others are before them, since what was between is left out, those go, unless only they break the
@@ -56,18 +37,41 @@ impl<'p> Writer<'p> {
         }
     }
 
-    /// The text so far, to which the next token, of this kind, is to be added.
-    pub(crate) fn before(&mut self, next: TokenKind) -> Result<&mut String, AllocError> {
+    /// Writes blanks in a line, or its indentation, before a column or not.
+    fn push_in_line(&mut self, blanks: &str, column: Option<Column>) -> Result<(), AllocError> {
+        let written = &mut self.sheet.text;
+        let is_line_start = written.is_empty() || written.ends_with('\n');
+        match column {
+            Some(column) => self.sheet.begin(column),
+            None if is_line_start => Ok(written.push_str(blanks)?),
+            None if blanks.is_empty() => Ok(()),
+            None => Ok(written.push(' ')?),
+        }
+    }
+
+    /// The text so far, to which the next token is to be added.
+    pub(crate) fn before(&mut self, next: Token<'_>) -> Result<&mut String, AllocError> {
         let blanks = self.blanks;
         self.blanks = "";
-        push_blanks(&mut self.written, blanks, Some(next))?;
-        Ok(&mut self.written)
+        if let Some((lines, indentation)) = blanks.rsplit_once('\n') {
+            push_breaks(&mut self.sheet.text, lines)?;
+            self.push_in_line(indentation, next.column)?;
+        } else {
+            self.push_in_line(blanks, next.column)?;
+        }
+        Ok(&mut self.sheet.text)
     }
 
     /// The whole text.
     pub(crate) fn end(mut self) -> Result<String, AllocError> {
         let blanks = self.blanks;
-        push_blanks(&mut self.written, blanks, None)?;
-        Ok(self.written)
+        let written = &mut self.sheet.text;
+        if let Some((lines, indentation)) = blanks.rsplit_once('\n') {
+            push_breaks(written, lines)?;
+            written.push_str(indentation)?;
+        } else if written.is_empty() || written.ends_with('\n') {
+            written.push_str(blanks)?;
+        }
+        self.sheet.end()
     }
 }

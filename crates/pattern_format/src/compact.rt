@@ -4,7 +4,7 @@ use crate::cut::tokens_of;
 use crate::read_back::reads_back;
 use crate::spelling::{push_flags, push_quantifier, without_blanks};
 use crate::style::Style;
-use crate::token::{Token, TokenKind, is_blank};
+use crate::token::{Token, TokenKind, begins_with_line_end, is_blank};
 use fancy_lex::error::Error;
 use fancy_lex::flags::Flags;
 use fancy_syntax::spanned::SpannedTree;
@@ -27,6 +27,38 @@ enum Loss {
     Blanks,
     /// Blanks, of which one stays. Nothing else is left out, and quantifiers and flags are as they were.
     MoreBlanks,
+}
+
+/// What is before a token in its line.
+#[derive(Clone, Copy, PartialEq, Eq, Debug)]
+enum Before {
+    /// Nothing, or what no branch ends with.
+    NoBranch,
+    /// What a branch may end with.
+    Branch,
+    /// A branch with the bar after it.
+    BranchAndBar,
+}
+
+/// What is before the next token in its line, after parentheses, bars or flags.
+fn after_other(before: Before, text: &str) -> Before {
+    if text.ends_with(')') {
+        return Before::Branch;
+    }
+    match text.strip_suffix('|') {
+        Some("") if before == Before::Branch => Before::BranchAndBar,
+        Some(ends) if ends.ends_with(')') => Before::BranchAndBar,
+        Some(_) | None => Before::NoBranch,
+    }
+}
+
+/// What is before the next token in its line, after a token that ends the line if it is blank.
+fn after_token(before: Before, token: Token<'_>) -> Before {
+    match token.kind {
+        TokenKind::Leaf { .. } | TokenKind::Quantifier | TokenKind::Comment => Before::Branch,
+        TokenKind::Blank | TokenKind::LineComment => Before::NoBranch,
+        TokenKind::Flags { .. } | TokenKind::Other => after_other(before, token.text),
+    }
 }
 
 /// The text of a token that is one character without the escape that it needs where whitespace is ignored.
@@ -56,6 +88,13 @@ fn are_one(text: &str, next: &str) -> bool {
     has_digits || text == "\\b" && next.starts_with('{')
 }
 
+/// Whether a comment through the end of its line is among these of the pattern that cannot be in parentheses.
+fn needs_lines(pattern: &str, comments: &[Comment]) -> bool {
+    comments.iter().any(|comment| {
+        comment.is_line && comment.span.text(pattern).and_then(contents).is_none()
+    })
+}
+
 /// A pattern that is written in one line.
 #[derive(Drop)]
 struct Line<'p> {
@@ -65,7 +104,11 @@ struct Line<'p> {
     last: &'p str,
     /// Whether blanks are after it.
     has_gap: bool,
+    /// What is before in the line of the pattern.
+    before: Before,
     loss: Loss,
+    /// Whether comments through the ends of their lines stay so, since one of them cannot be in parentheses.
+    keeps_line_comments: bool,
     oniguruma_mode: bool,
     pattern: &'p str,
     /// Where the next token begins in the pattern.
@@ -78,6 +121,9 @@ impl<'p> Line<'p> {
     /// Passes blanks. A space before the end of a line needs no other escape than any space.
     fn pass_blanks(&mut self, blanks: &str) -> Result<(), AllocError> {
         self.has_gap = true;
+        if blanks.contains('\n') {
+            self.before = Before::NoBranch;
+        }
         if self.loss == Loss::Escapes && self.last == SPACE_AT_END && blanks.contains('\n') {
             for _ in 0..SPACE_AT_END.len() {
                 self.written.pop();
@@ -98,15 +144,17 @@ impl<'p> Line<'p> {
         Ok(())
     }
 
-    /// Writes a comment through the end of its line in parentheses if it can be. Otherwise it stays with its line.
+    /// Writes a comment through the end of its line in parentheses if all can be. Otherwise it stays with its line. One that is
+    /// empty goes.
     fn push_line_comment(&mut self, comment: &str) -> Result<(), AllocError> {
-        let Some(text) = contents(comment) else {
-            return Ok(self.written.push_str(comment)?);
-        };
-        if !text.is_empty() {
-            self.written.push_str("(?#")?;
-            self.written.push_str(text)?;
-            self.written.push(')')?;
+        match contents(comment) {
+            Some("") => {}
+            Some(text) if !self.keeps_line_comments => {
+                self.written.push_str("(?#")?;
+                self.written.push_str(text)?;
+                self.written.push(')')?;
+            }
+            Some(_) | None => self.written.push_str(comment)?,
         }
         Ok(())
     }
@@ -226,16 +274,41 @@ impl<'p> Line<'p> {
         }
     }
 
-    /// Writes a token that is neither blank nor an empty comment, and may be the first one.
-    fn push_text(&mut self, token: Token<'p>, is_first: bool) -> Result<(), AllocError> {
+    /// Writes a comment that is not inside a token. If its line ends after it, and a branch with its bar is before it, it is about
+    /// that branch, and comes before the bar.
+    fn push_comment(&mut self, token: Token<'p>, ends_line: bool) -> Result<(), AllocError> {
+        let is_after_bar = self.before == Before::BranchAndBar
+            && ends_line
+            && self.written.ends_with('|');
+        if is_after_bar {
+            self.written.pop();
+        }
+        if let TokenKind::Comment = token.kind {
+            self.written.push_str(token.text)?;
+        } else {
+            self.push_line_comment(token.text)?;
+        }
+        if is_after_bar {
+            self.written.push('|')?;
+        }
+        Ok(())
+    }
+
+    /// Writes a token that is neither blank nor an empty comment, and may be the first one, or the last one of its line.
+    fn push_text(
+        &mut self,
+        token: Token<'p>,
+        is_first: bool,
+        ends_line: bool,
+    ) -> Result<(), AllocError> {
         let text = token.text;
         match token.kind {
-            TokenKind::LineComment => self.push_line_comment(text),
+            TokenKind::Comment | TokenKind::LineComment => self.push_comment(token, ends_line),
             TokenKind::Leaf { ignores_case } if self.loss == Loss::Escapes => {
                 self.last = unescaped(text, ignores_case);
                 Ok(self.written.push_str(self.last)?)
             }
-            TokenKind::Leaf { .. } | TokenKind::Comment => Ok(self.written.push_str(text)?),
+            TokenKind::Leaf { .. } => Ok(self.written.push_str(text)?),
             TokenKind::Blank | TokenKind::Flags { .. } | TokenKind::Quantifier | TokenKind::Other =>
                 {
                     if text.contains('#') {
@@ -247,13 +320,19 @@ impl<'p> Line<'p> {
         }
     }
 
-    /// Writes a token, which may be the first one.
-    fn push(&mut self, token: Token<'p>, is_first: bool) -> Result<(), AllocError> {
+    /// Writes a token, which may be the first one, or the last one of its line.
+    fn push(
+        &mut self,
+        token: Token<'p>,
+        is_first: bool,
+        ends_line: bool,
+    ) -> Result<(), AllocError> {
         let text = token.text;
         match token.kind {
             TokenKind::Blank => self.pass_blanks(text),
             TokenKind::LineComment if contents(text) == Some("") => {
                 self.has_gap = true;
+                self.before = Before::NoBranch;
                 Ok(())
             }
             TokenKind::LineComment
@@ -264,7 +343,9 @@ impl<'p> Line<'p> {
             | TokenKind::Other => {
                 self.push_gap(text)?;
                 self.last = text;
-                self.push_text(token, is_first)
+                self.push_text(token, is_first, ends_line)?;
+                self.before = after_token(self.before, token);
+                Ok(())
             }
         }
     }
@@ -295,7 +376,9 @@ fn in_one_line(
         written: String::new(alloc),
         last: "",
         has_gap: false,
+        before: Before::NoBranch,
         loss,
+        keeps_line_comments: needs_lines(pattern, comments),
         oniguruma_mode,
         pattern,
         position: 0,
@@ -303,7 +386,9 @@ fn in_one_line(
     };
     for (i, token) in tokens.iter().enumerate() {
         if !token.is_needless || loss == Loss::MoreBlanks {
-            line.push(*token, i == 0)?;
+            let after = tokens.get(i.saturating_add(1)..).unwrap_or(&[]);
+            let ends_line = token.text.ends_with('\n') || begins_with_line_end(after);
+            line.push(*token, i == 0, ends_line)?;
         }
         line.pass(token.text);
     }

@@ -1,4 +1,5 @@
 //! A pattern cut into its tokens.
+use crate::columns::set_columns;
 use crate::flag_groups::FlagGroups;
 use crate::nodes::{Node, nodes_of};
 use crate::token::{Token, TokenKind, is_blank};
@@ -35,6 +36,17 @@ fn first_token(text: &str) -> (&str, TokenKind) {
     (text.trim_end_matches(is_blank), TokenKind::Other)
 }
 
+/// Whether the text is of blanks and of comments through the ends of their lines.
+fn is_of_line_comments(text: &str) -> bool {
+    for line in text.split('\n') {
+        let comment = line.trim_start_matches(is_blank);
+        if !comment.is_empty() && !comment.starts_with('#') {
+            return false;
+        }
+    }
+    text.contains('#')
+}
+
 /// What inline flags are, with the flags before and after.
 fn kind_of_flags(before: Flags, after: Flags) -> TokenKind {
     if before == after {
@@ -53,6 +65,8 @@ struct Cutter<'p> {
     groups: FlagGroups,
     /// The last token of a node that is not blank.
     last: &'p str,
+    /// How many tokens there are up to the last one in which a line ends.
+    lines_end: usize,
 }
 
 impl<'p> Cutter<'p> {
@@ -70,6 +84,13 @@ impl<'p> Cutter<'p> {
         text
     }
 
+    /// Notes whether a line ends in the text of the last token.
+    fn pass_line_end(&mut self, text: &str) {
+        if text.contains('\n') {
+            self.lines_end = self.tokens.len();
+        }
+    }
+
     /// Adds a token of a node, unless its text is empty.
     fn push(&mut self, text: &'p str, kind: TokenKind) -> Result<(), AllocError> {
         if text.is_empty() {
@@ -82,12 +103,34 @@ impl<'p> Cutter<'p> {
             text,
             kind,
             is_needless: false,
+            column: None,
         })?;
+        self.pass_line_end(text);
         Ok(())
     }
 
-    /// Adds the tokens of a text that was passed, in which neither leaves nor other trivia are. With a comment they stay one.
+    /// Adds the blanks and the comments through the ends of their lines that a text consists of.
+    fn push_comments(&mut self, text: &'p str) -> Result<(), AllocError> {
+        let mut rest = text;
+        for _ in 0..text.len() {
+            let comments = rest.trim_start_matches(is_blank);
+            self.push(before(rest, comments), TokenKind::Blank)?;
+            let comment = comments.split_inclusive('\n').next().unwrap_or("");
+            self.push(comment, TokenKind::LineComment)?;
+            rest = comments.get(comment.len()..).unwrap_or("");
+        }
+        Ok(())
+    }
+
+    /// Adds the tokens of a text that was passed, in which neither leaves nor other trivia are. With a comment they stay one,
+    /// except after a parenthesis.
     fn push_between(&mut self, text: &'p str) -> Result<(), AllocError> {
+        if let Some(inside) = text.strip_prefix('(')
+            && is_of_line_comments(inside)
+        {
+            self.push(before(text, inside), TokenKind::Other)?;
+            return self.push_comments(inside);
+        }
         if text.contains('#') {
             return self.push(text, TokenKind::Other);
         }
@@ -147,8 +190,13 @@ impl<'p> Cutter<'p> {
     /// Whether a comment or inline flags that were passed can be left out if they change nothing. Before a quantifier
     /// they may be what is quantified.
     fn can_go(&self) -> bool {
+        !self.is_before_quantifier() && !self.separates()
+    }
+
+    /// Whether a quantifier is after what was passed.
+    fn is_before_quantifier(&self) -> bool {
         let next = self.after().trim_start_matches(is_blank);
-        !next.starts_with(is_quantifier_start) && !self.separates()
+        next.starts_with(is_quantifier_start)
     }
 
     /// Adds inline flags to the groups around them, unless they can be left out. Returns whether they can.
@@ -160,10 +208,14 @@ impl<'p> Cutter<'p> {
         is_needless
     }
 
-    /// Closes a group, before these nodes. Returns whether it can be left out.
+    /// Closes a group, before these nodes. Returns whether it can be left out. One over several lines that is repeated stays.
     fn close(&mut self, nodes: &[Node]) -> bool {
-        let separates = self.separates();
-        let Some(index) = self.groups.close(nodes.len(), separates) else {
+        let is_long = self
+            .groups
+            .opening()
+            .is_some_and(|opening| opening < self.lines_end);
+        let is_fixed = self.separates() || is_long && self.is_before_quantifier();
+        let Some(index) = self.groups.close(nodes.len(), is_fixed) else {
             return false;
         };
         if let Some(opening) = self.tokens.get_mut(index) {
@@ -204,7 +256,9 @@ impl<'p> Cutter<'p> {
             text,
             kind,
             is_needless,
+            column: None,
         })?;
+        self.pass_line_end(text);
         Ok(())
     }
 
@@ -237,7 +291,10 @@ pub(crate) fn tokens_of<'p>(
         tokens: Vec::new(alloc),
         groups: FlagGroups::new(alloc),
         last: "",
+        lines_end: 0,
     };
     cutter.push_tree(&nodes, &parsed.trivia)?;
-    Ok(cutter.tokens)
+    let mut tokens = cutter.tokens;
+    set_columns(alloc, &mut tokens)?;
+    Ok(tokens)
 }

@@ -59,6 +59,11 @@ impl FlagGroups {
         Ok(())
     }
 
+    /// The index of the opening of the innermost group.
+    pub(crate) fn opening(&self) -> Option<usize> {
+        self.open.last().map(|group| group.opening)
+    }
+
     /// All groups that are open stay, since flags are set in them.
     pub(crate) fn fix_all(&mut self) {
         for group in &mut self.open {

@@ -52,6 +52,18 @@ fn most_formatted(
     Ok(None)
 }
 
+/// Whether the style keeps the lines of the text, as `Verbose` does if the text is one line and fits.
+fn keeps_lines(text: &str, style: Style) -> bool {
+    match style {
+        Style::Kept => true,
+        Style::Verbose { width } => {
+            let line = text.strip_suffix('\n').unwrap_or(text);
+            !line.contains('\n') && line.chars().count() <= width
+        }
+        Style::Compact => false,
+    }
+}
+
 /// The text in the lines of the style; None if the style keeps those that it has, or if there is no such text.
 fn in_lines_of(
     alloc: Global,
@@ -59,6 +71,9 @@ fn in_lines_of(
     flags: u32,
     style: Style,
 ) -> std::result::Result<Option<String>, AllocError> {
+    if keeps_lines(text, style) {
+        return Ok(None);
+    }
     match style {
         Style::Kept => Ok(None),
         Style::Verbose { width } => laid_out(alloc, text, flags, width),
@@ -91,8 +106,8 @@ fn styled(
     }))
 }
 
-/// The text that is tried first: in the style Kept with all changes, in the others with its lines new. None if it
-/// cannot be laid out so.
+/// The text that is tried first: with all changes, and with its lines new unless the style keeps them. None if it cannot
+/// be laid out so.
 fn first_text(
     alloc: Global,
     pattern: &str,
@@ -100,12 +115,14 @@ fn first_text(
     flags: u32,
     style: Style,
 ) -> std::result::Result<Option<Formatted>, AllocError> {
-    if style == Style::Kept {
+    if style != Style::Compact {
         let tokens = tokens_of(alloc, pattern, parsed)?;
         let oniguruma_mode = Flags::from_bits(flags).oniguruma_mode;
         let extent = Extent::Whole;
         let text = text_of(alloc, &tokens, extent, oniguruma_mode)?;
-        return Ok(Some(Formatted { text, extent }));
+        if keeps_lines(text.as_str(), style) {
+            return Ok(Some(Formatted { text, extent }));
+        }
     }
     let extent = Extent::Lines;
     let text = in_lines_of(alloc, pattern, flags, style)?;
@@ -149,12 +166,14 @@ fn most_styled(
 }
 
 /// Formats the pattern, and keeps how it is written: the text of each leaf, comments, groups that set flags, and lines
-/// with their indentation. `(?:..)`, `(?#)` and letters of flags go if they change nothing. `{0,1}`, `{0,}` and `{1,}`
-/// become `?`, `*` and `+`, and `{n,n}` becomes `{n}`. Ignored whitespace goes at the end of a line, and becomes one space
-/// within a line, except before a comment through the end of the line.
+/// with their indentation. `(?:..)`, `(?#)` and letters of flags go if they change nothing, except a group around a whole
+/// pattern of several parts. `{0,1}`, `{0,}` and `{1,}` become `?`, `*` and `+`, and `{n,n}` becomes `{n}`. Ignored
+/// whitespace goes at the end of a line, and becomes one space within a line, except before a comment through the end of the
+/// line.
 ///
-/// In the style `Verbose` the pattern is laid out over several lines, and all that is in it stays too. A pattern that cannot be
-/// laid out has its own lines: one with a part where whitespace is not ignored, or where the text would read otherwise.
+/// In the style `Verbose` a pattern that does not fit in a line is laid out over several ones, and all that is in it stays too. A
+/// pattern that cannot be laid out has its own lines: one with a part where whitespace is not ignored, one that would have one line
+/// after `(?x)`, or where the text would read otherwise.
 ///
 /// The text parses, under the same flags, as the same tree with the same group information, up to the positions of calls
 /// that cannot be resolved, and with the same comments except `(?#)`. If it does not with all of these changes, fewer are

@@ -1,6 +1,7 @@
 //! Pieces of a pattern written over several lines.
 use crate::items::Item;
-use crate::pieces::{Piece, PieceKind};
+use crate::pieces::{Blanks, Piece, PieceKind};
+use crate::sheet::Sheet;
 use std::alloc::{AllocError, Global};
 
 /// How many spaces the contents of a group are indented by, and the first of several branches, whose bars are before the
@@ -13,6 +14,7 @@ enum Gap {
     Nothing,
     Space,
     Line,
+    BlankLine,
 }
 
 /// A group around a position, or the pattern.
@@ -22,12 +24,33 @@ struct Level {
     indent: usize,
     /// Whether it is in one line.
     is_flat: bool,
+    /// Whether its lines have as many branches as fit there.
+    is_filled: bool,
+    /// Whether a line ended in it before.
+    has_own_lines: bool,
+}
+
+impl Level {
+    /// That of a group, or a pattern, which is the item, where its contents are indented by so many spaces.
+    fn of(item: Item, indent: usize, is_flat: bool, width: usize) -> Level {
+        let inside = indent_in(indent, item.has_branches);
+        let rows = item
+            .rows
+            .filter(|(_, longest)| inside.saturating_add(*longest) <= width);
+        let is_one_row = item.has_line_end && rows.is_some_and(|(count, _)| count == 1);
+        Level {
+            indent: if is_one_row { indent } else { inside },
+            is_flat,
+            is_filled: item.is_list || item.has_line_end && rows.is_some(),
+            has_own_lines: item.has_line_end,
+        }
+    }
 }
 
 /// The lines of a pattern.
 #[derive(Drop)]
 pub(crate) struct Lines {
-    written: String,
+    sheet: Sheet,
     /// How many characters the last line has.
     column: usize,
     gap: Gap,
@@ -35,6 +58,8 @@ pub(crate) struct Lines {
     last: Option<PieceKind>,
     /// Whether the last piece is a literal character or its quantifier.
     is_in_word: bool,
+    /// The author's blanks before the next piece.
+    blanks: Blanks,
     /// How many characters a line may have.
     width: usize,
     levels: Vec<Level>,
@@ -51,39 +76,41 @@ fn indent_in(indent: usize, has_branches: bool) -> usize {
 }
 
 impl Lines {
-    /// Those of a pattern, with several branches or not, that begins with these flags, or with none.
+    /// Those of a pattern, which is the item, that begins with these flags, or with none.
     pub(crate) fn new(
         alloc: Global,
         flags: &str,
-        has_branches: bool,
+        whole: Item,
         width: usize,
     ) -> Result<Lines, AllocError> {
         Ok(Lines {
-            written: String::from_str(alloc, flags)?,
+            sheet: Sheet::new(alloc, flags)?,
             column: 0,
             gap: Gap::Line,
             last: None,
             is_in_word: false,
+            blanks: Blanks::Nothing,
             width,
             levels: Vec::new(alloc),
-            level: Level {
-                indent: indent_in(0, has_branches),
-                is_flat: false,
-            },
+            level: Level::of(whole, 0, false, width),
         })
     }
 
-    /// Begins a line with so many spaces. A space that ends the line before it is written otherwise, since it is lost easily.
+    /// Begins a line with so many spaces, after a blank line if that is the gap. A space that ends the line before it is written
+    /// otherwise, since it is lost easily.
     fn begin_line(&mut self, indent: usize) -> Result<(), AllocError> {
-        if self.written.ends_with("\\ ") {
-            self.written.pop();
-            self.written.push_str("x20")?;
+        if self.sheet.text.ends_with("\\ ") {
+            self.sheet.text.pop();
+            self.sheet.text.push_str("x20")?;
         }
-        if !self.written.is_empty() && !self.written.ends_with('\n') {
-            self.written.push('\n')?;
+        if !self.sheet.text.is_empty() && !self.sheet.text.ends_with('\n') {
+            self.sheet.text.push('\n')?;
+        }
+        if self.gap == Gap::BlankLine {
+            self.sheet.text.push('\n')?;
         }
         for _ in 0..indent {
-            self.written.push(' ')?;
+            self.sheet.text.push(' ')?;
         }
         self.column = indent;
         Ok(())
@@ -91,22 +118,28 @@ impl Lines {
 
     /// Writes what comes before the next piece.
     fn write_gap(&mut self) -> Result<(), AllocError> {
-        let gap = self.gap;
-        self.gap = Gap::Nothing;
-        match gap {
-            Gap::Nothing => {}
-            Gap::Space => {
-                self.written.push(' ')?;
-                self.column = self.column.saturating_add(1);
-            }
-            Gap::Line => self.begin_line(self.level.indent)?,
+        match self.gap {
+            Gap::Nothing => self.write_blanks()?,
+            Gap::Space => self.write(" ")?,
+            Gap::Line | Gap::BlankLine => self.begin_line(self.level.indent)?,
         }
+        self.gap = Gap::Nothing;
         Ok(())
+    }
+
+    /// Writes the author's blanks before the next piece.
+    fn write_blanks(&mut self) -> Result<(), AllocError> {
+        self.column = self.column.saturating_add(self.blanks.width());
+        match self.blanks {
+            Blanks::Nothing => Ok(()),
+            Blanks::Space => Ok(self.sheet.text.push(' ')?),
+            Blanks::Column(column) => self.sheet.begin(column),
+        }
     }
 
     /// Writes a text without what comes before it.
     fn write(&mut self, text: &str) -> Result<(), AllocError> {
-        self.written.push_str(text)?;
+        self.sheet.text.push_str(text)?;
         self.column = self.column.saturating_add(text.chars().count());
         Ok(())
     }
@@ -120,22 +153,18 @@ impl Lines {
     fn break_before(&mut self, width: usize) {
         let is_open = !self.level.is_flat && self.gap == Gap::Nothing;
         let is_inside = self.column > self.level.indent;
-        if is_open && is_inside && !self.fits(self.column, width) {
+        if is_open
+            && is_inside
+            && !self.fits(self.column, self.blanks.width().saturating_add(width))
+        {
             self.gap = Gap::Line;
         }
     }
 
-    /// Writes a literal character, after a piece of this kind. A word that fits in a line is not broken, and a run never.
-    fn push_literal(
-        &mut self,
-        text: &str,
-        item: Item,
-        last: Option<PieceKind>,
-    ) -> Result<(), AllocError> {
-        let word = item.width.saturating_add(item.word_after);
-        let is_whole = !self.is_in_word && self.fits(self.level.indent, word);
-        if last != Some(PieceKind::Literal) {
-            self.break_before(if is_whole { word } else { item.width });
+    /// Writes a literal character, in a word or not. No word is broken.
+    fn push_literal(&mut self, text: &str, item: Item) -> Result<(), AllocError> {
+        if !self.is_in_word || self.blanks != Blanks::Nothing {
+            self.break_before(item.width);
         }
         self.is_in_word = true;
         self.write_gap()?;
@@ -151,18 +180,30 @@ impl Lines {
 
     /// Writes a comment through the end of its line.
     fn push_line_comment(&mut self, text: &str, is_alone: bool) -> Result<(), AllocError> {
-        if is_alone {
-            self.write_gap()?;
+        match self.blanks {
+            Blanks::Column(column) if is_alone => {
+                self.gap = Gap::Line;
+                self.begin_line(0)?;
+                self.sheet.begin(column)?;
+            }
+            Blanks::Nothing | Blanks::Space | Blanks::Column(_) if is_alone => self.write_gap()?,
+            Blanks::Nothing | Blanks::Space | Blanks::Column(_) => self.write_blanks()?,
         }
         self.write(text)?;
         self.gap = Gap::Line;
         Ok(())
     }
 
-    /// Ends a line, if something is in it.
-    fn end_line(&mut self) {
+    /// Ends a line, if something is in it, after a piece of this kind. Of blank lines one stays, except at the beginning of a
+    /// pattern or group.
+    fn end_line(&mut self, has_blank_line: bool, last: Option<PieceKind>) {
         if self.gap == Gap::Nothing && self.column > self.level.indent {
             self.gap = Gap::Line;
+        }
+        let is_begun = !self.sheet.text.is_empty()
+            && !matches!(last, Some(PieceKind::Opening { .. }));
+        if has_blank_line && is_begun && self.gap == Gap::Line {
+            self.gap = Gap::BlankLine;
         }
     }
 
@@ -173,17 +214,16 @@ impl Lines {
         item: Item,
         can_break: bool,
     ) -> Result<bool, AllocError> {
-        self.break_before(item.width);
+        if !item.has_line_end {
+            self.break_before(item.width);
+        }
         self.write_gap()?;
         let is_short = self.fits(self.column, item.width) || !can_break;
         let is_flat = self.level.is_flat || is_short && !item.has_line_end;
         self.write(piece.text.as_str())?;
         let inside = self.level.indent.saturating_add(INDENTATION);
         self.levels.push(self.level)?;
-        self.level = Level {
-            indent: indent_in(inside, item.has_branches),
-            is_flat,
-        };
+        self.level = Level::of(item, inside, is_flat, self.width);
         if !is_flat {
             self.gap = Gap::Line;
         }
@@ -192,23 +232,35 @@ impl Lines {
 
     /// Writes the parenthesis that closes a group.
     fn push_closing(&mut self) -> Result<(), AllocError> {
-        let is_flat = self.level.is_flat;
+        let closed = self.level;
         if let Some(level) = self.levels.pop() {
             self.level = level;
         }
-        if is_flat {
-            return self.write(")");
+        if !closed.is_flat {
+            self.gap = Gap::Line;
         }
-        self.gap = Gap::Line;
         self.write_gap()?;
         self.write(")")?;
-        self.gap = Gap::Line;
+        if !closed.is_flat && !closed.has_own_lines {
+            self.gap = Gap::Line;
+        }
         Ok(())
     }
 
+    /// Whether a bar is in the line of the branch before it, with the branch after it, which has so many characters.
+    fn is_in_row(&self, width: usize) -> bool {
+        let end = self
+            .column
+            .saturating_add(self.blanks.width())
+            .saturating_add(1);
+        self.level.is_flat
+            || self.level.is_filled && self.gap == Gap::Nothing && self.fits(end, width)
+    }
+
     /// Writes the bar between two branches.
-    fn push_bar(&mut self) -> Result<(), AllocError> {
-        if self.level.is_flat {
+    fn push_bar(&mut self, item: Item) -> Result<(), AllocError> {
+        if self.is_in_row(item.width) {
+            self.write_gap()?;
             return self.write("|");
         }
         self.begin_line(self.level.indent.saturating_sub(INDENTATION))?;
@@ -219,8 +271,10 @@ impl Lines {
 
     /// Writes a quantifier. It follows what it repeats, also after a comment.
     fn push_quantifier(&mut self, text: &str) -> Result<(), AllocError> {
-        if self.written.ends_with('\n') {
+        if self.sheet.text.ends_with('\n') {
             self.write_gap()?;
+        } else {
+            self.write_blanks()?;
         }
         self.write(text)
     }
@@ -230,26 +284,28 @@ impl Lines {
         let text = piece.text.as_str();
         let last = self.last;
         self.last = Some(piece.kind);
+        self.blanks = piece.blanks;
         self.is_in_word = self.is_in_word
             && matches!(piece.kind, PieceKind::Literal | PieceKind::Quantifier);
         match piece.kind {
-            PieceKind::Literal => self.push_literal(text, item, last)?,
-            PieceKind::Atom | PieceKind::Comment => self.push_atom(text, item)?,
+            PieceKind::Literal => self.push_literal(text, item)?,
+            PieceKind::Atom | PieceKind::Flags | PieceKind::Comment => self.push_atom(text, item)?,
             PieceKind::Opening { can_break } => return self.push_opening(piece, item, can_break),
             PieceKind::Closing => self.push_closing()?,
-            PieceKind::Bar => self.push_bar()?,
+            PieceKind::Bar => self.push_bar(item)?,
             PieceKind::Quantifier => self.push_quantifier(text)?,
             PieceKind::LineComment { is_alone } => self.push_line_comment(text, is_alone)?,
-            PieceKind::LineEnd => self.end_line(),
+            PieceKind::LineEnd { has_blank_line } => self.end_line(has_blank_line, last),
         }
         Ok(true)
     }
 
     /// The whole text. It ends with a line if the pattern does.
     pub(crate) fn end(mut self) -> Result<String, AllocError> {
-        if self.last == Some(PieceKind::LineEnd) && !self.written.is_empty() {
+        if matches!(self.last, Some(PieceKind::LineEnd { .. })) && !self.sheet.text.is_empty() {
+            self.gap = Gap::Line;
             self.begin_line(0)?;
         }
-        Ok(self.written)
+        self.sheet.end()
     }
 }

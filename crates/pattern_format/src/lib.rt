@@ -3,6 +3,7 @@
 
 mod all_comments;
 mod blanks;
+mod columns;
 mod comments;
 mod compact;
 mod cut;
@@ -15,6 +16,8 @@ mod layout;
 mod nodes;
 mod pieces;
 mod read_back;
+mod removed;
+mod sheet;
 mod spelling;
 pub mod style;
 mod token;

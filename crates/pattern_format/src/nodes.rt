@@ -15,21 +15,26 @@ pub(crate) struct Node {
     pub(crate) needs_group: bool,
 }
 
+/// Whether a group around the node cannot be left out where it is repeated.
+fn needs_group_in_repeat(node: &Expr) -> bool {
+    // An atomic group may be made by a quantifier. In the grammars of editors, a back reference may be replaced by a text of
+    // several characters.
+    matches!(
+        node,
+        Expr::Alt(_)
+            | Expr::Concat(_)
+            | Expr::Repeat { .. }
+            | Expr::AtomicGroup(_)
+            | Expr::Backref { .. }
+    )
+}
+
 /// Whether a group around the child of the node cannot be left out. In a conditional or an absent form it always stays.
 fn needs_group(node: &Expr, child: &Expr) -> bool {
     match node.shape() {
         Shape::Alt(_) => matches!(child, Expr::Alt(_)),
         Shape::Concat(_) => matches!(child, Expr::Alt(_) | Expr::Concat(_)),
-        // An atomic group may be made by a quantifier. In the grammars of editors, a back reference may be replaced by
-        // a text of several characters.
-        Shape::Around(Wrap::Repeat { .. }, _) => matches!(
-            child,
-            Expr::Alt(_)
-                | Expr::Concat(_)
-                | Expr::Repeat { .. }
-                | Expr::AtomicGroup(_)
-                | Expr::Backref { .. }
-        ),
+        Shape::Around(Wrap::Repeat { .. }, _) => needs_group_in_repeat(child),
         Shape::Around(
             Wrap::Group | Wrap::LookAround(_) | Wrap::AtomicGroup | Wrap::DefineGroup,
             _,
@@ -61,12 +66,15 @@ fn push_nodes(
     Ok(())
 }
 
-/// The nodes of the tree of a pattern in preorder.
+/// The nodes of the tree of a pattern in preorder. A group around the whole pattern stays if one in a repeat would, since
+/// programs put patterns together and repeat them.
 pub(crate) fn nodes_of(
     alloc: Global,
     parsed: &SpannedTree,
 ) -> Result<Vec<Node>, AllocError> {
     let mut nodes = Vec::with_capacity(alloc, parsed.spans.len())?;
-    push_nodes(&mut nodes, parsed.root(), false)?;
+    let root = parsed.root();
+    let needs_group_here = needs_group_in_repeat(root.expr());
+    push_nodes(&mut nodes, root, needs_group_here)?;
     Ok(nodes)
 }

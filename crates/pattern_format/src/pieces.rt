@@ -1,6 +1,6 @@
 //! The pieces of a pattern that is laid out anew.
 use crate::spelling::{push_flags, push_quantifier};
-use crate::token::{Token, TokenKind, is_blank};
+use crate::token::{Column, Token, TokenKind, begins_with_line_end, is_blank};
 use std::alloc::{AllocError, Global};
 
 /// What a piece of a pattern is.
@@ -8,6 +8,8 @@ use std::alloc::{AllocError, Global};
 pub(crate) enum PieceKind {
     /// What no line is broken in.
     Atom,
+    /// Inline flags.
+    Flags,
     /// A literal character that is written as itself. No line is broken between two of them.
     Literal,
     /// The opening of a group, which may hold several lines or not.
@@ -19,10 +21,30 @@ pub(crate) enum PieceKind {
     Quantifier,
     /// A comment in parentheses.
     Comment,
-    /// A comment through the end of its line, which is alone in that line or not, and the blanks before it.
+    /// A comment through the end of its line, which is alone in that line or not.
     LineComment { is_alone: bool },
-    /// The end of a line.
-    LineEnd,
+    /// The end of a line, after which blank lines are or not.
+    LineEnd { has_blank_line: bool },
+}
+
+/// The author's blanks before a piece in its line.
+#[derive(Clone, Copy, PartialEq, Eq, Debug)]
+pub(crate) enum Blanks {
+    Nothing,
+    Space,
+    /// Those before a column.
+    Column(Column),
+}
+
+impl Blanks {
+    /// How many characters they have.
+    pub(crate) fn width(self) -> usize {
+        match self {
+            Blanks::Nothing => 0,
+            Blanks::Space => 1,
+            Blanks::Column(column) => column.blanks,
+        }
+    }
 }
 
 /// A piece of a pattern.
@@ -30,6 +52,8 @@ pub(crate) enum PieceKind {
 pub(crate) struct Piece {
     pub(crate) text: String,
     pub(crate) kind: PieceKind,
+    /// What is before it in the author's line.
+    pub(crate) blanks: Blanks,
 }
 
 /// The text of a token that is one character, as it is written where whitespace is ignored. An escape of its letter does not
@@ -59,22 +83,77 @@ fn opened(text: &str) -> usize {
 
 /// The pieces of tokens.
 #[derive(Drop)]
-struct Pieces<'p> {
+struct Pieces {
     alloc: Global,
     pieces: Vec<Piece>,
     oniguruma_mode: bool,
     /// Whether nothing but blanks is before in the line.
     is_line_start: bool,
     /// The blanks after the last piece.
-    blanks: &'p str,
+    blanks: Blanks,
+    /// The blanks before a bar that is to be added, after the end of the line and comments.
+    held_bar: Option<Blanks>,
+    /// How many lines have ended.
+    lines: usize,
+    /// How many lines had ended at the openings of the groups around.
+    open: Vec<usize>,
+    /// The index of the first of the last pieces, if they close groups over several lines, after other pieces in their line.
+    ends: Option<usize>,
+    /// Whether the last pieces close groups over several lines, and begin their line.
+    is_own_end: bool,
 }
 
-impl<'p> Pieces<'p> {
+impl Pieces {
+    /// Counts the lines before a piece of this kind, and in the groups around it.
+    fn count_lines(&mut self, kind: PieceKind) -> Result<(), AllocError> {
+        let (ends, is_own_end) = (self.ends, self.is_own_end);
+        self.ends = None;
+        self.is_own_end = false;
+        match kind {
+            PieceKind::Opening { .. } => self.open.push(self.lines)?,
+            PieceKind::Closing => {
+                let has_lines = self.open.pop().is_some_and(|lines| lines < self.lines);
+                self.is_own_end = has_lines && (is_own_end || self.is_after_line_end());
+                if has_lines && !self.is_own_end {
+                    self.ends = ends.or(Some(self.pieces.len()));
+                }
+            }
+            PieceKind::Quantifier => {
+                self.ends = ends;
+                self.is_own_end = is_own_end;
+            }
+            PieceKind::LineEnd { .. } | PieceKind::LineComment { .. } => {
+                self.lines = self.lines.saturating_add(1);
+            }
+            PieceKind::Atom
+            | PieceKind::Flags
+            | PieceKind::Literal
+            | PieceKind::Bar
+            | PieceKind::Comment => {}
+        }
+        Ok(())
+    }
+
+    /// Whether a line ends after the last piece.
+    fn is_after_line_end(&self) -> bool {
+        self.pieces.last().is_some_and(|last| matches!(
+            last.kind,
+            PieceKind::LineEnd { .. } | PieceKind::LineComment { .. }
+        ))
+    }
+
+    /// Adds a piece with this text.
+    fn push_owned(&mut self, text: String, kind: PieceKind) -> Result<(), AllocError> {
+        self.count_lines(kind)?;
+        let blanks = self.blanks;
+        self.blanks = Blanks::Nothing;
+        self.pieces.push(Piece { text, kind, blanks })?;
+        Ok(())
+    }
+
     /// Adds a piece.
     fn push(&mut self, text: &str, kind: PieceKind) -> Result<(), AllocError> {
-        let text = String::from_str(self.alloc, text)?;
-        self.pieces.push(Piece { text, kind })?;
-        Ok(())
+        self.push_owned(String::from_str(self.alloc, text)?, kind)
     }
 
     /// Adds the opening of a group, or of a conditional with the parenthesis of its condition. Returns false if it is
@@ -95,43 +174,71 @@ impl<'p> Pieces<'p> {
         Ok(true)
     }
 
+    /// Whether the last piece is in this line, and a branch may end with it.
+    fn is_in_branch(&self) -> bool {
+        match self.pieces.last() {
+            Some(last) => match last.kind {
+                PieceKind::Atom
+                | PieceKind::Flags
+                | PieceKind::Literal
+                | PieceKind::Closing
+                | PieceKind::Quantifier
+                | PieceKind::Comment => true,
+                PieceKind::Opening { .. }
+                | PieceKind::Bar
+                | PieceKind::LineComment { .. }
+                | PieceKind::LineEnd { .. } => false,
+            },
+            None => false,
+        }
+    }
+
+    /// Adds the bar that is held, if there is one.
+    fn push_held_bar(&mut self) -> Result<(), AllocError> {
+        let Some(blanks) = self.held_bar else {
+            return Ok(());
+        };
+        self.held_bar = None;
+        self.ends = None;
+        self.pieces.push(Piece {
+            text: String::from_str(self.alloc, "|")?,
+            kind: PieceKind::Bar,
+            blanks,
+        })?;
+        Ok(())
+    }
+
+    /// Adds a bar. After a branch in the same line it is held, since a comment at the end of that line is about the branch.
+    fn push_bar(&mut self) -> Result<(), AllocError> {
+        self.push_held_bar()?;
+        if self.is_in_branch() {
+            self.held_bar = Some(self.blanks);
+            self.blanks = Blanks::Nothing;
+            return Ok(());
+        }
+        self.push("|", PieceKind::Bar)
+    }
+
     /// Adds parentheses that close, and bars. Returns false if there is something else.
     fn push_ends(&mut self, text: &str) -> Result<bool, AllocError> {
         for c in text.chars() {
             match c {
-                ')' => self.push(")", PieceKind::Closing)?,
-                '|' => self.push("|", PieceKind::Bar)?,
+                ')' => {
+                    self.push_held_bar()?;
+                    self.push(")", PieceKind::Closing)?;
+                }
+                '|' => self.push_bar()?,
                 _ => return Ok(false),
             }
         }
         Ok(true)
     }
 
-    /// Adds blanks and comments through the ends of their lines, which come after the opening of a group. Returns false if
-    /// there is something else.
-    fn push_comments(&mut self, text: &'p str) -> Result<bool, AllocError> {
-        for line in text.split_inclusive('\n') {
-            let comment = line.trim_start_matches(is_blank);
-            let blanks = line.strip_suffix(comment).unwrap_or("");
-            if comment.starts_with('#') {
-                self.push_line_comment(comment, blanks)?;
-            } else if comment.is_empty() {
-                self.push_blanks(blanks)?;
-            } else {
-                return Ok(false);
-            }
-        }
-        self.blanks = "";
-        Ok(true)
-    }
-
     /// Adds what is between leaves and trivia. Returns false if that is not known.
-    fn push_between(&mut self, text: &'p str) -> Result<bool, AllocError> {
-        if let (Some(inside), true) = (text.strip_prefix('('), text.contains('#')) {
-            self.push("(", PieceKind::Opening { can_break: true })?;
-            return self.push_comments(inside);
-        }
-        if text.starts_with('(') {
+    fn push_between(&mut self, text: &str) -> Result<bool, AllocError> {
+        if text.contains('#') {
+            Ok(false)
+        } else if text.starts_with('(') {
             self.push_opening(text)
         } else {
             self.push_ends(text)
@@ -149,11 +256,11 @@ impl<'p> Pieces<'p> {
         let mut text = String::new(self.alloc);
         push_flags(self.alloc, &mut text, token.text, before, after)?;
         let kind = if text.ends_with(')') {
-            PieceKind::Atom
+            PieceKind::Flags
         } else {
             PieceKind::Opening { can_break: true }
         };
-        self.pieces.push(Piece { text, kind })?;
+        self.push_owned(text, kind)?;
         Ok(true)
     }
 
@@ -161,41 +268,73 @@ impl<'p> Pieces<'p> {
     fn push_quantifier(&mut self, token: Token<'_>) -> Result<bool, AllocError> {
         let mut text = String::new(self.alloc);
         push_quantifier(self.alloc, &mut text, token.text, !self.oniguruma_mode)?;
-        self.pieces.push(Piece {
-            text,
-            kind: PieceKind::Quantifier,
-        })?;
+        self.push_owned(text, PieceKind::Quantifier)?;
         Ok(!token.text.contains('#'))
     }
 
     /// Adds blanks.
-    fn push_blanks(&mut self, blanks: &'p str) -> Result<(), AllocError> {
-        self.blanks = blanks;
-        if blanks.contains('\n') {
+    fn push_blanks(&mut self, blanks: &str) -> Result<(), AllocError> {
+        if !self.is_line_start {
+            self.blanks = Blanks::Space;
+        }
+        if let Some((_, rest)) = blanks.split_once('\n') {
+            let has_blank_line = rest.contains('\n') || self.is_line_start;
             self.is_line_start = true;
-            self.push("", PieceKind::LineEnd)?;
+            self.blanks = Blanks::Nothing;
+            self.push("", PieceKind::LineEnd { has_blank_line })?;
         }
         Ok(())
     }
 
-    /// Adds a comment through the end of its line, after blanks.
-    fn push_line_comment(&mut self, comment: &str, blanks: &str) -> Result<(), AllocError> {
-        let is_alone = self.is_line_start;
-        let mut text = String::new(self.alloc);
-        if !is_alone {
-            text.push_str(if blanks.is_empty() { " " } else { blanks })?;
+    /// Adds a comment through the end of its line.
+    fn push_line_comment(&mut self, comment: &str) -> Result<(), AllocError> {
+        if !comment.ends_with('\n') {
+            self.push_held_bar()?;
         }
-        text.push_str(comment)?;
+        let is_alone = self.is_line_start;
+        if !is_alone && self.blanks == Blanks::Nothing {
+            self.blanks = Blanks::Space;
+        }
         self.is_line_start = true;
-        self.pieces.push(Piece {
-            text,
-            kind: PieceKind::LineComment { is_alone },
-        })?;
+        let ends = self.ends.filter(|_| comment.ends_with('\n'));
+        let Some(ends) = ends else {
+            return self.push(comment, PieceKind::LineComment { is_alone });
+        };
+        let closings = self.take_from(ends)?;
+        self.push(comment, PieceKind::LineComment { is_alone })?;
+        self.put_back(closings)?;
+        self.push(
+            "",
+            PieceKind::LineEnd {
+                has_blank_line: false,
+            },
+        )
+    }
+
+    /// Takes the pieces from the index on, the last one first.
+    fn take_from(&mut self, index: usize) -> Result<Vec<Piece>, AllocError> {
+        let mut taken = Vec::new(self.alloc);
+        for _ in index..self.pieces.len() {
+            if let Some(piece) = self.pieces.pop() {
+                taken.push(piece)?;
+            }
+        }
+        Ok(taken)
+    }
+
+    /// Puts back pieces, of which the last one comes first.
+    fn put_back(&mut self, pieces: Vec<Piece>) -> Result<(), AllocError> {
+        let mut rest = pieces;
+        for _ in 0..rest.len() {
+            if let Some(piece) = rest.pop() {
+                self.pieces.push(piece)?;
+            }
+        }
         Ok(())
     }
 
     /// Adds a token that is not blank. Returns false if it cannot be laid out anew.
-    fn push_text(&mut self, token: Token<'p>) -> Result<bool, AllocError> {
+    fn push_text(&mut self, token: Token<'_>) -> Result<bool, AllocError> {
         self.is_line_start = false;
         let text = token.text;
         match token.kind {
@@ -217,23 +356,27 @@ impl<'p> Pieces<'p> {
         Ok(true)
     }
 
-    /// Adds a token. Returns false if it cannot be laid out anew.
-    fn push_token(&mut self, token: Token<'p>) -> Result<bool, AllocError> {
+    /// Adds a token, which may be the last one of its line. Returns false if it cannot be laid out anew.
+    fn push_token(&mut self, token: Token<'_>, ends_line: bool) -> Result<bool, AllocError> {
         if let TokenKind::Blank = token.kind {
             self.push_blanks(token.text)?;
             return Ok(true);
         }
-        let blanks = self.blanks;
-        self.blanks = "";
+        if let Some(column) = token.column {
+            self.blanks = Blanks::Column(column);
+        }
         if let TokenKind::LineComment = token.kind {
-            self.push_line_comment(token.text, blanks)?;
+            self.push_line_comment(token.text)?;
             return Ok(true);
+        }
+        if !(ends_line && matches!(token.kind, TokenKind::Comment)) {
+            self.push_held_bar()?;
         }
         self.push_text(token)
     }
 }
 
-/// The pieces of the tokens that are not needless. None if the pattern cannot be laid out anew: it has a part that is not
+/// The pieces of the tokens, of which none is needless. None if the pattern cannot be laid out anew: it has a part that is not
 /// known, or one where whitespace is not ignored.
 pub(crate) fn pieces_of(
     alloc: Global,
@@ -245,12 +388,19 @@ pub(crate) fn pieces_of(
         pieces: Vec::with_capacity(alloc, tokens.len())?,
         oniguruma_mode,
         is_line_start: true,
-        blanks: "",
+        blanks: Blanks::Nothing,
+        held_bar: None,
+        lines: 0,
+        open: Vec::new(alloc),
+        ends: None,
+        is_own_end: false,
     };
-    for token in tokens {
-        if !token.is_needless && !found.push_token(*token)? {
+    for (i, token) in tokens.iter().enumerate() {
+        let ends_line = begins_with_line_end(tokens.get(i.saturating_add(1)..).unwrap_or(&[]));
+        if !found.push_token(*token, ends_line)? {
             return Ok(None);
         }
     }
+    found.push_held_bar()?;
     Ok(Some(found.pieces))
 }

@@ -5,8 +5,9 @@
 pub enum Style {
     /// As it is: its lines stay, with their indentation.
     Kept,
-    /// Over several lines, under `FLAG_IGNORE_SPACE`: what does not fit in so many characters is broken into its branches
-    /// and groups. The pattern begins with `(?x)` unless the flags ignore whitespace.
+    /// A line that has up to so many characters stays. Others are laid out over several lines, under `FLAG_IGNORE_SPACE`: what
+    /// does not fit is broken into its branches and groups. The pattern then begins with `(?x)` unless the flags ignore
+    /// whitespace.
     Verbose { width: usize },
     /// In one line, without ignored whitespace: a comment through the end of its line becomes `(?#..)`, and `(?x)` at the
     /// beginning goes.

@@ -20,6 +20,17 @@ pub(crate) enum TokenKind {
     Other,
 }
 
+/// A column that tokens of several lines begin in, or one token after blanks that stay.
+#[derive(Clone, Copy, PartialEq, Eq, Debug)]
+pub(crate) struct Column {
+    /// How many characters are before it in the pattern.
+    pub(crate) start: usize,
+    /// Which of the columns with this start it is.
+    pub(crate) number: usize,
+    /// How many of the characters before the token are blanks.
+    pub(crate) blanks: usize,
+}
+
 /// A token of a pattern.
 #[derive(Clone, Copy)]
 pub(crate) struct Token<'p> {
@@ -27,9 +38,19 @@ pub(crate) struct Token<'p> {
     pub(crate) kind: TokenKind,
     /// Whether the tree is the same without it.
     pub(crate) is_needless: bool,
+    /// The column that it begins, if blanks before it stay.
+    pub(crate) column: Option<Column>,
 }
 
 /// Whether the character is whitespace that `FLAG_IGNORE_SPACE` ignores.
 pub(crate) fn is_blank(c: char) -> bool {
     c == ' ' || c == '\n' || c == '\r' || c == '\t'
+}
+
+/// Whether a line ends right before these tokens, after blanks.
+pub(crate) fn begins_with_line_end(tokens: &[Token<'_>]) -> bool {
+    match tokens.first() {
+        Some(token) => matches!(token.kind, TokenKind::Blank) && token.text.contains('\n'),
+        None => false,
+    }
 }

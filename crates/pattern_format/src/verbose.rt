@@ -3,6 +3,7 @@ use crate::cut::tokens_of;
 use crate::items::items_of;
 use crate::layout::Lines;
 use crate::pieces::pieces_of;
+use crate::removed::without_needless;
 use crate::token::{Token, TokenKind};
 use fancy_lex::error::Error;
 use fancy_lex::flags::Flags;
@@ -25,14 +26,24 @@ fn sets_ignore_space(token: Token<'_>) -> bool {
     }
 }
 
-/// The tokens, over lines of up to so many characters. None if they cannot be laid out.
+/// Whether the text has several lines after the first one.
+fn has_several_lines(text: &str) -> bool {
+    match text.split_once('\n') {
+        Some((_, rest)) => rest.contains('\n'),
+        None => false,
+    }
+}
+
+/// The tokens, over lines of up to so many characters. None if they cannot be laid out, or if one line would follow a new
+/// `(?x)`.
 fn over_lines(
     alloc: Global,
     tokens: &[Token<'_>],
     flags: Flags,
     width: usize,
 ) -> Result<Option<String>, AllocError> {
-    let Some(pieces) = pieces_of(alloc, tokens, flags.oniguruma_mode)? else {
+    let tokens = without_needless(alloc, tokens)?;
+    let Some(pieces) = pieces_of(alloc, &tokens, flags.oniguruma_mode)? else {
         return Ok(None);
     };
     let Some((items, whole)) = items_of(alloc, &pieces)? else {
@@ -46,14 +57,17 @@ fn over_lines(
         Some(first) if begins_verbose => first.text.as_str(),
         _ => "(?x)",
     };
-    let mut lines = Lines::new(alloc, set, whole.has_branches, width)?;
+    let mut lines = Lines::new(alloc, set, whole, width)?;
     let passed = (begins_verbose && !flags.ignore_space) as usize;
     for (piece, item) in pieces.iter().zip(&items).skip(passed) {
         if !lines.push(piece, *item)? {
             return Ok(None);
         }
     }
-    Ok(Some(lines.end()?))
+    let text = lines.end()?;
+    let has_new_flag = !flags.ignore_space && !begins_verbose;
+    let is_useful = !has_new_flag || has_several_lines(text.as_str());
+    Ok(is_useful.then_some(text))
 }
 
 /// The tokens of the pattern; None if it is invalid. Its tree, which is larger, is dropped.

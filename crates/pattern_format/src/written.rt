@@ -1,6 +1,7 @@
 //! The formatted text of a pattern's tokens.
 use crate::blanks::Writer;
 use crate::extent::Extent;
+use crate::removed::without_needless;
 use crate::spelling::{push_flags, push_quantifier};
 use crate::token::{Token, TokenKind};
 use std::alloc::{AllocError, Global};
@@ -30,6 +31,25 @@ fn push_token(
     }
 }
 
+/// The text of all the tokens, formatted to this extent.
+fn text_of_all(
+    alloc: Global,
+    tokens: &[Token<'_>],
+    extent: Extent,
+    oniguruma_mode: bool,
+) -> Result<String, AllocError> {
+    let mut writer = Writer::new(alloc)?;
+    for token in tokens {
+        if let TokenKind::Blank = token.kind {
+            writer.push_blanks(token.text);
+        } else {
+            let written = writer.before(*token)?;
+            push_token(alloc, written, *token, extent, oniguruma_mode)?;
+        }
+    }
+    writer.end()
+}
+
 /// The text of the tokens, formatted to this extent. Tokens may be parsed in Oniguruma mode.
 pub(crate) fn text_of(
     alloc: Global,
@@ -37,17 +57,9 @@ pub(crate) fn text_of(
     extent: Extent,
     oniguruma_mode: bool,
 ) -> Result<String, AllocError> {
-    let mut writer = Writer::new(alloc);
-    for token in tokens {
-        if token.is_needless && extent == Extent::Whole {
-            continue;
-        }
-        if let TokenKind::Blank = token.kind {
-            writer.push_blanks(token.text);
-        } else {
-            let written = writer.before(token.kind)?;
-            push_token(alloc, written, *token, extent, oniguruma_mode)?;
-        }
+    if extent == Extent::Whole {
+        let kept = without_needless(alloc, tokens)?;
+        return text_of_all(alloc, &kept, extent, oniguruma_mode);
     }
-    writer.end()
+    text_of_all(alloc, tokens, extent, oniguruma_mode)
 }

@@ -18,3 +18,16 @@ pub fn members(alloc: Global, pattern: &str) -> Result<Option<String>, Error> {
         ClassMeaning::NotOneCharacter => Ok(None),
     }
 }
+
+/// Whether some character is one that both patterns match; `None` if one of them does not match one character.
+pub fn have_common(alloc: Global, first: &str, second: &str) -> Result<Option<bool>, Error> {
+    let first = Expr::parse_tree(alloc, first)?;
+    let second = Expr::parse_tree(alloc, second)?;
+    let ClassMeaning::Characters(first) = characters_of(alloc, &first.expr, true)? else {
+        return Ok(None);
+    };
+    let ClassMeaning::Characters(second) = characters_of(alloc, &second.expr, true)? else {
+        return Ok(None);
+    };
+    Ok(Some(first.intersects(&second)?))
+}

@@ -17,7 +17,7 @@ ghost use Rattle.fancy_lex.specs.Text.{EndsWith, Text, text_of};
 use crate::error::{ParseError, ReadError};
 use crate::escape::{Assertion, Escaped};
 use crate::flags::Flags;
-use crate::layout::{past_layout, skip};
+use crate::layout::{layout, past_layout, skip};
 use crate::text::{Reach, after, next, push};
 use std::alloc::Global;
 
@@ -81,6 +81,15 @@ fn known_boundary(text: &str, ignore_space: bool) -> Option<(Assertion, &str)>
     Some((Assertion::RightWordHalfBoundary, rest))
 }
 
+/// Why a name in braces has no closing brace.
+#[derive(Clone, Copy)]
+enum NotClosed {
+    /// A comment in its layout is not closed; the reach of that error.
+    Comment(Reach),
+    /// The text ends in the braces.
+    Braces,
+}
+
 /// The error of braces that are not closed.
 fn unclosed_error(alloc: Global, reach: Reach) -> ReadError
     ensures { Reports {A = Escape} result (fails (boundary_not_closed reach)) }
@@ -91,6 +100,16 @@ fn unclosed_error(alloc: Global, reach: Reach) -> ReadError
     }
 }
 
+/// The error of a name without a closing brace, in an escape whose backslash is at `reach`.
+fn not_closed_error(alloc: Global, cause: NotClosed, reach: Reach) -> ReadError
+    ensures { Reports {A = Escape} result (fails (name_spec.not_closed reach cause)) }
+{
+    match cause {
+        NotClosed::Comment(comment) => ReadError::At(comment, ParseError::UnclosedOpenParen),
+        NotClosed::Braces => unclosed_error(alloc, reach),
+    }
+}
+
 /// The text before the name, with its backslash.
 fn boundary_start(negated: bool) -> &'static str
     ensures { chars result.now ≡ boundary_start negated }
@@ -98,42 +117,35 @@ fn boundary_start(negated: bool) -> &'static str
     if negated { r"\B{" } else { r"\b{" }
 }
 
-/// Reads the next character of a name in braces, after layout: the character and the text after it. It is an error if
-/// a comment in the layout is not closed, or if the text ends.
-fn next_in_name<'a>(
-    alloc: Global,
-    text: &'a str,
-    ignore_space: bool,
-    reach: Reach,
-) -> Result<(char, &'a str), ReadError>
+/// Reads the next character of a name in braces, after layout: the character and the text after it.
+fn next_in_name(text: &str, ignore_space: bool) -> Result<(char, &str), NotClosed>
     ensures value { MatchResult result
         (λ p. layout_reading (layout ignore_space (chars text.now)) ≡ gives tt (p.0 ∷ chars p.1.now))
-        (λ e. (k : ℕ) (out : Text) → 0 < k → Reports e (name_spec.name_error_after ignore_space reach out k (chars text.now))) }
+        (λ e. (reach k : ℕ) (out : Text) → 0 < k → name_spec.name_error_after ignore_space reach out k (chars text.now) ≡
+        fails (name_spec.not_closed reach e)) }
     ensures shorter { IfOk result (λ p. length p.1.now < length text.now) }
 {
-    let name = skip(text, ignore_space)?;
+    let name = match layout(text, ignore_space) {
+        Ok(name) => name,
+        Err(comment) => return Err(NotClosed::Comment(comment)),
+    };
     match next(name) {
         Some(read) => Ok(read),
-        None => Err(unclosed_error(alloc, reach)),
+        None => Err(NotClosed::Braces),
     }
 }
 
-/// Looks for the closing brace of a name, and allocates nothing on the way there. So an error before the brace is found
-/// without memory for the name.
-fn find_closing_brace(
-    alloc: Global,
-    text: &str,
-    ignore_space: bool,
-    reach: Reach,
-) -> Result<(), ReadError>
-    ensures found { IfOk result (λ _. (negated : Bool) →
+/// Looks for the closing brace of a name. It cannot allocate, so that a name without one is found without memory for
+/// the name.
+fn find_closing_brace(text: &str, ignore_space: bool) -> Result<(), NotClosed>
+    ensures found { IfOk result (λ _. (reach : ℕ) (negated : Bool) →
         CarriesText (name_spec.name_error ignore_space reach negated (chars text.now))) }
-    ensures error { IfErr result (λ e. (negated : Bool) →
-        Reports e (name_spec.name_error ignore_space reach negated (chars text.now))) }
+    ensures error { IfErr result (λ e. (reach : ℕ) (negated : Bool) →
+        name_spec.name_error ignore_space reach negated (chars text.now) ≡ fails (name_spec.not_closed reach e)) }
 {
     let mut rest = text;
     loop {
-        let (c, more) = next_in_name(alloc, rest, ignore_space, reach)?;
+        let (c, more) = next_in_name(rest, ignore_space)?;
         if c == '}' {
             return Ok(());
         }
@@ -152,11 +164,16 @@ fn bare_escape(
     ensures value { let error = name_spec.name_error ignore_space reach negated (chars text.now) in
         MatchResult result (λ s. error ≡ error_at reach (invalid_escape (text_of s))) (λ e. Reports e error) }
 {
-    find_closing_brace(alloc, text, ignore_space, reach)?;
+    if let Err(cause) = find_closing_brace(text, ignore_space) {
+        return Err(not_closed_error(alloc, cause, reach));
+    }
     let mut out = String::from_str(alloc, boundary_start(negated))?;
     let mut rest = text;
     loop {
-        let (c, more) = next_in_name(alloc, rest, ignore_space, reach)?;
+        let (c, more) = match next_in_name(rest, ignore_space) {
+            Ok(read) => read,
+            Err(cause) => return Err(not_closed_error(alloc, cause, reach)),
+        };
         push(&mut out, c)?;
         if c == '}' {
             return Ok(out);

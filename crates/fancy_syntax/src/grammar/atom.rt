@@ -1,13 +1,16 @@
 //! The start of an atom: a leaf, or the opening of a group.
-ghost use Rattle.std.specs.Prelude.{◌≡◌, false, ◌+◌, ◌<◌, ◌≤◌, ◌^◌, ◌∷◌, [], length, chars, string_bytes, IfOk};
+ghost use Rattle.std.specs.Prelude.{◌≡◌, false, ◌+◌, ◌<◌, ◌≤◌, ◌^◌, ◌∷◌, [], length, chars, string_bytes, Some, IfOk};
 ghost use Rattle.fancy_lex.specs.Characters.{code};
 ghost use Rattle.fancy_lex.specs.Class as classes;
 ghost use Rattle.fancy_lex.specs.Escape as escapes;
 ghost use Rattle.fancy_lex.specs.EscapeViews.{escape_of};
 ghost use Rattle.fancy_grammar.specs.AtomStart as spec;
+ghost use Rattle.fancy_lex.specs.Text.{Text};
 ghost use Rattle.fancy_grammar.specs.Depth.{max_depth};
+ghost use Rattle.fancy_grammar.specs.Spans.{condition_text};
 ghost use Rattle.fancy_grammar.specs.Tree.{delegate, literal};
 ghost use Rattle.fancy_syntax.specs.Parsed.{state, GivesTree, Sees, IsBelow, StaysAtNothing, TakesBytes, IsSomething};
+ghost use Rattle.fancy_syntax.specs.Parsed.{HasConditionAt};
 ghost use Rattle.fancy_syntax.specs.View.{view};
 
 use crate::expr::Expr;
@@ -35,6 +38,7 @@ pub(crate) fn read_atom_start<'a>(
     ensures stays { IfOk result (λ a. StaysAtNothing a current.old current.new) }
     ensures shorter { IfOk result (λ a. TakesBytes a current.old.rest.now current.new.rest.now) }
     ensures below { IfOk result (λ a. IsBelow a depth) }
+    ensures start { (t : Text) → condition_text (state current.old) ≡ Some t → IfOk result (λ a. HasConditionAt a t) }
 {
     let Some((c, rest)) = next(current.rest) else {
         return Ok(AtomStart::Nothing);
@@ -64,6 +68,7 @@ fn read_opening<'a>(
     ensures within { IfOk result (λ _. length current.new.rest.now < length current.old.rest.now) }
     ensures something { IfOk result (λ a. IsSomething a) }
     ensures below { IfOk result (λ _. depth + 1 < max_depth) }
+    ensures start { (t : Text) → condition_text (state current.old) ≡ Some t → IfOk result (λ a. HasConditionAt a t) }
 {
     if depth >= MAX_DEPTH - 1 {
         let paren = reach(current.rest);

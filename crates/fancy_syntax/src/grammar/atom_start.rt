@@ -1,6 +1,7 @@
 //! The start of an atom.
 use crate::expr::Expr;
 use crate::grammar::group::kind::GroupKind;
+use fancy_lex::text::Reach;
 
 /// The start of an atom, which decides how the atom is read.
 pub(crate) enum AtomStart<'a> {
@@ -12,8 +13,8 @@ pub(crate) enum AtomStart<'a> {
     Group(GroupKind<'a>),
     /// A conditional whose condition is an alternation.
     Condition,
-    /// A conditional whose condition is this tree.
-    Body(Box<Expr>),
+    /// A conditional whose condition is this tree, which begins at the reach.
+    Body { condition: Box<Expr>, start: Reach },
     /// `(?~|`, which begins an absent expression, a stopper or a clear.
     AbsentBranch,
 }

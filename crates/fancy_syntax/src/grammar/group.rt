@@ -1,8 +1,11 @@
 //! The openings of groups: what follows a parenthesis and a question mark or an asterisk.
-ghost use Rattle.std.specs.Prelude.{◌≡◌, ◌<◌, ◌≤◌, length, chars, codes, ◌++◌, Some, None, IfOk, IfSome, option_map};
+ghost use Rattle.std.specs.Prelude.{◌≡◌, ◌∷◌, ◌<◌, ◌≤◌, length, chars, codes, ◌++◌, Some, None, IfOk, IfSome, option_map};
 ghost use Rattle.std.specs.Prelude.{MatchResult};
 ghost use Rattle.fancy_lex.specs.ErrorTable.{unknown_verb};
-ghost use Rattle.fancy_lex.specs.Text.{strip_word};
+ghost use Rattle.fancy_lex.specs.Characters.{code};
+ghost use Rattle.fancy_lex.specs.LayoutSteps.{past_layout};
+ghost use Rattle.fancy_lex.specs.Text.{Text, strip_word};
+ghost use Rattle.std.specs.Option.{option_and_then};
 ghost use Rattle.fancy_lex.specs.LetterSteps.{letters};
 ghost use Rattle.fancy_lex.specs.GroupName as names;
 ghost use Rattle.fancy_lex.specs.NameDelimiter.{delimiter_of};
@@ -11,7 +14,7 @@ ghost use Rattle.fancy_grammar.specs.AtomStart.{read, of_kind};
 ghost use Rattle.fancy_grammar.specs.GroupKind as kind;
 ghost use Rattle.fancy_grammar.specs.State.{at, skipped, after_skipped};
 ghost use Rattle.fancy_grammar.specs.AtomStart as spec;
-ghost use Rattle.fancy_syntax.specs.Parsed.{state, Sees, IsSomething};
+ghost use Rattle.fancy_syntax.specs.Parsed.{state, Sees, IsSomething, HasConditionAt};
 ghost use Rattle.fancy_grammar.specs.Errors.{IsThisError};
 ghost use Rattle.fancy_grammar.specs.Verb as verbs;
 
@@ -40,6 +43,8 @@ pub(crate) fn after_paren<'a>(
         (spec.group_start (state current.old)) spec.error_start) }
     ensures within { length current.new.rest.now ≤ length current.old.rest.now }
     ensures something { IfOk result (λ a. IsSomething a) }
+    ensures start { (t : Text) → option_and_then (strip_word (codes "?("))
+        (past_layout current.old.flags.ignore_space (chars current.old.rest.now)) ≡ Some t → IfOk result (λ a. HasConditionAt a t) }
 {
     current.rest = skip_layout(*current)?;
     let Some((c, rest)) = next(current.rest) else {
@@ -61,6 +66,7 @@ fn after_question<'a>(alloc: Global, current: &mut State<'a>) -> Result<AtomStar
     ensures value { Sees result (state current.new) (spec.after_question (state current.old) (chars current.old.rest.now)) }
     ensures within { length current.new.rest.now ≤ length current.old.rest.now }
     ensures something { IfOk result (λ a. IsSomething a) }
+    ensures start { (t : Text) → chars current.old.rest.now ≡ code "(" ∷ t → IfOk result (λ a. HasConditionAt a t) }
 {
     let Some((c, rest)) = next(current.rest) else {
         return read_flags(alloc, current);
@@ -249,6 +255,7 @@ fn read_condition<'a>(alloc: Global, current: &mut State<'a>) -> Result<AtomStar
         (spec.after_question (state current.old) (codes "(" ++ chars current.old.rest.now)) }
     ensures within { length current.new.rest.now ≤ length current.old.rest.now }
     ensures something { IfOk result (λ a. IsSomething a) }
+    ensures start { IfOk result (λ a. HasConditionAt a (chars current.old.rest.now)) }
 {
     let Some((c, rest)) = next(current.rest) else {
         return Err(ReadError::At(AT_END, ParseError::UnclosedOpenParen));
@@ -277,10 +284,12 @@ fn read_verb_condition<'a>(
     ensures value { Sees result (state current.new) (spec.verb_start spec.body (state current.old) (chars rest.now)) }
     ensures within { length current.new.rest.now ≤ length current.old.rest.now }
     ensures something { IfOk result (λ a. IsSomething a) }
+    ensures start { IfOk result (λ a. HasConditionAt a (chars current.old.rest.now)) }
 {
+    let start = reach(current.rest);
     let verb = read_verb(current, rest)?;
-    let verb = Box::new(alloc, Expr::BacktrackingControlVerb(verb))?;
-    Ok(AtomStart::Body(verb))
+    let condition = Box::new(alloc, Expr::BacktrackingControlVerb(verb))?;
+    Ok(AtomStart::Body { condition, start })
 }
 
 /// Reads the target of a condition.
@@ -289,10 +298,13 @@ fn read_target<'a>(alloc: Global, current: &mut State<'a>) -> Result<AtomStart<'
         (spec.target_start (state current.old) (references.condition_target (chars current.old.rest.now))) }
     ensures within { length current.new.rest.now ≤ length current.old.rest.now }
     ensures something { IfOk result (λ a. IsSomething a) }
+    ensures start { IfOk result (λ a. HasConditionAt a (chars current.old.rest.now)) }
 {
+    let start = reach(current.rest);
     let (target, rest) = condition_target(current.rest)?;
     current.rest = rest;
-    Ok(AtomStart::Body(condition(alloc, target)?))
+    let condition = condition(alloc, target)?;
+    Ok(AtomStart::Body { condition, start })
 }
 
 /// Reads the verb after the asterisk at the front, which `rest` follows. TargetNotRepeatable at an asterisk that begins

@@ -7,7 +7,7 @@ ghost use Rattle.fancy_grammar.specs.Grammar as spec;
 ghost use Rattle.fancy_syntax.specs.Log.{Log};
 ghost use Rattle.fancy_syntax.specs.Machine as machine;
 ghost use Rattle.fancy_syntax.specs.Machine.{ended_with, part_of, part_recorded};
-ghost use Rattle.fancy_syntax.specs.Recording.{body_separated, group_recorded};
+ghost use Rattle.fancy_syntax.specs.Recording.{group_recorded};
 ghost use Rattle.fancy_syntax.specs.Parsed.{group_kind, state, Turns};
 ghost use Rattle.fancy_grammar.specs.Trivia.{part, closing};
 ghost use Rattle.fancy_syntax.specs.TriviaViews.{recorded_part};
@@ -129,7 +129,7 @@ fn node_of_any_part<S: Spanning>(
             enclose(alloc, kind, reach, tree)
         }
         OpenPart::Body { condition, .. } => {
-            part_body(tree, paren, spans)?;
+            spans.end_body(tree, paren)?;
             let body = mem::replace(tree, Expr::Empty);
             *tree = conditional(alloc, condition, branches_of(body), end, spans)?;
             Ok(())
@@ -187,18 +187,6 @@ fn record_closing<S: Spanning>(
         | GroupKind::Atomic
         | GroupKind::Define
         | GroupKind::Repeater => spans.close(end, false),
-    }
-}
-
-/// Records the two branches of a conditional, whose body ends at the reach. If the body is an Alt, they are its first
-/// branch and the choice among the others; otherwise they are the body and an Empty.
-#[inline(always)]
-fn part_body<S: Spanning>(body: &Expr, end: usize, spans: &mut S) -> Result<(), AllocError>
-    ensures { (l : Log) → S.records spans.old l → OnOk result (S.records spans.new (body_separated (view body.now) end l)) }
-{
-    match body {
-        Expr::Alt(branches) => spans.split(branches.len()),
-        _ => spans.lack_branch(end),
     }
 }
 

@@ -1,15 +1,14 @@
 //! The positions of the nodes of a raw tree, and of what no node has, recorded while it is read.
 ghost use Rattle.std.specs.Prelude.{◌≡◌, chars, OnOk, [], ◌∷◌};
 ghost use Rattle.fancy_lex.specs.Text.{reach_of};
-ghost use Rattle.fancy_syntax.specs.Log.{Log, leaf_recorded, left_out, wrapped, opened, body_opened};
-ghost use Rattle.fancy_syntax.specs.Log.{branch_begun, branch_ended, choice_ended, body_split, branch_lacked};
+ghost use Rattle.fancy_syntax.specs.Log.{Log, leaf_recorded, left_out, wrapped, opened};
+ghost use Rattle.fancy_syntax.specs.Log.{branch_begun, branch_ended, choice_ended, body_begun, conditional_dropped};
 ghost use Rattle.fancy_syntax.specs.Log.{part_dropped, atom_closed, atom_ended, layout_passed, pass, text_dropped};
-ghost use Rattle.fancy_syntax.specs.Log.{body_begun, conditional_dropped};
 ghost use Rattle.fancy_syntax.specs.TriviaViews.{recorded_part};
 ghost use Rattle.fancy_syntax.specs.Parsed.{state};
-ghost use Rattle.fancy_syntax.specs.Recording.{atom_read};
+ghost use Rattle.fancy_syntax.specs.Recording.{body_separated};
 ghost use Rattle.fancy_syntax.specs.View.{view};
-ghost use Rattle.fancy_grammar.specs.State.{done, skipped};
+ghost use Rattle.fancy_grammar.specs.State.{skipped};
 ghost use Rattle.fancy_grammar.specs.Trivia.{inner_at, inner_of_counts};
 ghost use Rattle.fancy_lex.specs.LayoutSteps.{rest};
 
@@ -54,18 +53,7 @@ pub(crate) trait Spanning: Drop {
     fn drop_text(&mut self, start: usize, end: usize) -> Result<(), AllocError>
         ensures { (l : Log) → records self.old l → OnOk result (records self.new (text_dropped start end l)) };
 
-    /// An atom that is read at once is there, and becomes the last piece: a leaf, or inline flags, whose tree is an Empty.
-    fn record_atom(
-        &mut self,
-        alloc: Global,
-        start: State,
-        atom: &Expr,
-        end: State,
-    ) -> Result<(), AllocError>
-        ensures { (l : Log) → records self.old l → OnOk result (records self.new
-            (atom_read (state start.entry) (done (view atom.now) (state end.entry)) l)) };
-
-    /// A leaf is there, and becomes the last piece.
+    /// A leaf, or an Empty, is there, and becomes the last piece.
     fn record_leaf(&mut self, start: usize, end: usize) -> Result<(), AllocError>
         ensures { (l : Log) → records self.old l → OnOk result (records self.new (leaf_recorded start end l)) };
 
@@ -80,16 +68,6 @@ pub(crate) trait Spanning: Drop {
     /// An atom that holds branches begins at the first reach, and its first part at the second.
     fn open(&mut self, start: usize, inside: usize) -> Result<(), AllocError>
         ensures { (l : Log) → records self.old l → OnOk result (records self.new (opened start inside l)) };
-
-    /// A conditional begins at the first state. Its body begins at the second, after a condition that is no
-    /// alternation.
-    fn open_body(
-        &mut self,
-        alloc: Global,
-        start: State,
-        inside: State,
-    ) -> Result<(), AllocError>
-        ensures { (l : Log) → records self.old l → OnOk result (records self.new (body_opened (state start.entry) (state inside.entry) l)) };
 
     /// The open part is a condition whose closing parenthesis was read. The body begins at `rest`.
     fn begin_body(&mut self, rest: &str)
@@ -107,14 +85,10 @@ pub(crate) trait Spanning: Drop {
     fn end_choice(&mut self, end: usize) -> Result<(), AllocError>
         ensures { (l : Log) → records self.old l → OnOk result (records self.new (choice_ended end l)) };
 
-    /// The Alt of that many branches, the body of a conditional, is replaced by the first branch and the choice among
-    /// the others.
-    fn split(&mut self, branches: usize) -> Result<(), AllocError>
-        ensures { (l : Log) → records self.old l → OnOk result (records self.new (body_split branches l)) };
-
-    /// The body of a conditional, which ends there, is its first branch; the second is an Empty at its end.
-    fn lack_branch(&mut self, end: usize) -> Result<(), AllocError>
-        ensures { (l : Log) → records self.old l → OnOk result (records self.new (branch_lacked end l)) };
+    /// The body of a conditional ends there. If it is an Alt, its node is replaced by its first branch and the choice
+    /// among the others; otherwise an Empty at its end is the second branch.
+    fn end_body(&mut self, body: &Expr, end: usize) -> Result<(), AllocError>
+        ensures { (l : Log) → records self.old l → OnOk result (records self.new (body_separated (view body.now) end l)) };
 
     /// What was read of the open part leaves no node.
     fn drop_part(&mut self)
@@ -178,17 +152,6 @@ impl Spanning for NoSpans {
     }
 
     #[inline(always)]
-    fn record_atom(
-        &mut self,
-        _alloc: Global,
-        _start: State,
-        _atom: &Expr,
-        _end: State,
-    ) -> Result<(), AllocError> {
-        Ok(())
-    }
-
-    #[inline(always)]
     fn record_leaf(&mut self, _start: usize, _end: usize) -> Result<(), AllocError> {
         Ok(())
     }
@@ -203,16 +166,6 @@ impl Spanning for NoSpans {
 
     #[inline(always)]
     fn open(&mut self, _start: usize, _inside: usize) -> Result<(), AllocError> {
-        Ok(())
-    }
-
-    #[inline(always)]
-    fn open_body(
-        &mut self,
-        _alloc: Global,
-        _start: State,
-        _inside: State,
-    ) -> Result<(), AllocError> {
         Ok(())
     }
 
@@ -233,12 +186,7 @@ impl Spanning for NoSpans {
     }
 
     #[inline(always)]
-    fn split(&mut self, _branches: usize) -> Result<(), AllocError> {
-        Ok(())
-    }
-
-    #[inline(always)]
-    fn lack_branch(&mut self, _end: usize) -> Result<(), AllocError> {
+    fn end_body(&mut self, _body: &Expr, _end: usize) -> Result<(), AllocError> {
         Ok(())
     }
 

@@ -1,8 +1,5 @@
 //! The spans of the nodes of a raw tree, each tree in preorder, and what no node has.
-ghost use Rattle.std.specs.Prelude.{◌≡◌, true, false, ◌∷◌, chars, map, option_map, IfOk, OnOk};
-ghost use Rattle.fancy_lex.specs.Reading.{choose};
-ghost use Rattle.fancy_lex.specs.Text.{reach_of};
-ghost use Rattle.fancy_grammar.specs.Spans.{condition_text};
+ghost use Rattle.std.specs.Prelude.{◌≡◌, true, false, ◌∷◌, chars, map, IfOk, OnOk};
 ghost use Rattle.fancy_syntax.specs.Log as spec;
 ghost use Rattle.fancy_syntax.specs.Log.{layout_passed};
 ghost use Rattle.fancy_syntax.specs.LogViews.{log_of};
@@ -18,18 +15,17 @@ mod returned;
 
 use crate::expr::Expr;
 use crate::grammar::recorded::{
-    ConditionPart, FirstBar, LastPiece, Open, Recorded, RecordedTrivium, part_between,
+    ConditionPart, FirstBar, LastPiece, Open, Recorded, RecordedTrivium,
 };
 use crate::grammar::spanning::Spanning;
-use crate::grammar::state::{State, skip_layout};
-use crate::grammar::trees::is_empty;
+use crate::grammar::state::State;
 use crate::trivium::TriviumKind;
 use fancy_lex::class::next_escape;
 use fancy_lex::counts::Counts;
 use fancy_lex::escape::after_layout_letter;
 use fancy_lex::flags::Flags;
 use fancy_lex::layout::{LayoutComment, first_comment, first_in_token, has_hash};
-use fancy_lex::text::{after, after_word, next, reach, reach_before};
+use fancy_lex::text::{next, reach, reach_before};
 use std::alloc::{AllocError, Global};
 
 /// The nodes that have been read, the open atoms, and what was passed that no node has.
@@ -247,6 +243,29 @@ impl Spans {
         Ok(self.passed.insert(height, dropped(start, end))?)
     }
 
+    /// Replaces the Alt of that many branches, the body of a conditional, by the first branch and the choice among the
+    /// others.
+    fn split(&mut self, branches: usize) -> Result<(), AllocError>
+        ensures { OnOk result (log_of self.new ≡ spec.body_split branches (log_of self.old)) }
+    {
+        // The body is an Alt: `end_choice` recorded its bar after all else, and its node before all else of the body.
+        let Some(Recorded::Bar(bar)) = self.recorded.pop() else {
+            return Ok(());
+        };
+        let at = self.open.branches;
+        let Some(Recorded::Node { end, .. }) = self.recorded.get(at) else {
+            return Ok(());
+        };
+        let end = *end;
+        self.recorded.remove(at);
+        // If there are two branches, the second is alone, and has its own node.
+        if branches < 3 {
+            return Ok(());
+        }
+        let start = bar.past;
+        self.put(at.saturating_add(bar.before), Recorded::Node { start, end })
+    }
+
     /// Ends the open atom, which becomes the last piece.
     fn end_atom(&mut self)
         ensures { log_of self.new ≡ spec.atom_ended (log_of self.old) }
@@ -314,25 +333,6 @@ impl Spanning for Spans {
         Ok(self.passed.push(dropped(start, end))?)
     }
 
-    fn record_atom(
-        &mut self,
-        alloc: Global,
-        start: State,
-        atom: &Expr,
-        end: State,
-    ) -> Result<(), AllocError> {
-        self.record_leaf(reach(start.rest), reach(end.rest))?;
-        let is_flags = is_empty(atom);
-        if is_flags {
-            let kind = TriviumKind::InlineFlags {
-                before: start.flags,
-                after: end.flags,
-            };
-            self.pass(part_between(start, end, kind, false))?;
-        }
-        self.pass_start(alloc, start, end.rest, is_flags)
-    }
-
     fn record_leaf(&mut self, start: usize, end: usize) -> Result<(), AllocError> {
         let height = self.recorded.len();
         self.last = LastPiece { start, height };
@@ -360,20 +360,6 @@ impl Spanning for Spans {
     fn open(&mut self, start: usize, inside: usize) -> Result<(), AllocError> {
         self.open_atom(start)?;
         self.begin(inside);
-        Ok(())
-    }
-
-    fn open_body(
-        &mut self,
-        alloc: Global,
-        start: State,
-        inside: State,
-    ) -> Result<(), AllocError> {
-        let condition = condition_start(start);
-        self.open(reach(start.rest), condition)?;
-        self.pass_start(alloc, start, inside.rest, false)?;
-        self.record_leaf(condition, reach_before(inside.rest))?;
-        self.begin_body(inside.rest);
         Ok(())
     }
 
@@ -414,27 +400,11 @@ impl Spanning for Spans {
         self.put(self.open.branches, Recorded::Node { start, end })
     }
 
-    fn split(&mut self, branches: usize) -> Result<(), AllocError> {
-        // The body is an Alt: `end_choice` recorded its bar after all else, and its node before all else of the body.
-        let Some(Recorded::Bar(bar)) = self.recorded.pop() else {
-            return Ok(());
-        };
-        let at = self.open.branches;
-        let Some(Recorded::Node { end, .. }) = self.recorded.get(at) else {
-            return Ok(());
-        };
-        let end = *end;
-        self.recorded.remove(at);
-        // If there are two branches, the second is alone, and has its own node.
-        if branches < 3 {
-            return Ok(());
+    fn end_body(&mut self, body: &Expr, end: usize) -> Result<(), AllocError> {
+        match body {
+            Expr::Alt(branches) => self.split(branches.len()),
+            _ => Ok(self.recorded.push(Recorded::Node { start: end, end })?),
         }
-        let start = bar.past;
-        self.put(at.saturating_add(bar.before), Recorded::Node { start, end })
-    }
-
-    fn lack_branch(&mut self, end: usize) -> Result<(), AllocError> {
-        Ok(self.recorded.push(Recorded::Node { start: end, end })?)
     }
 
     fn drop_part(&mut self) {
@@ -514,29 +484,4 @@ fn inner_trivium(comment: LayoutComment<'_>) -> RecordedTrivium
         kind,
         unnamed: false,
     }
-}
-
-/// Where the condition of a conditional begins that begins here: after the parenthesis, layout, a question mark and a
-/// parenthesis.
-fn condition_start(current: State) -> usize
-    ensures { result ≡ choose (condition_text (state current.entry)) reach_of (reach_of (chars current.entry.rest.now)) }
-{
-    match condition_text(current) {
-        Some(text) => reach(text),
-        None => reach(current.rest),
-    }
-}
-
-/// The text after the parenthesis of a conditional, layout, a question mark and a parenthesis.
-fn condition_text(current: State<'_>) -> Option<&str>
-    ensures { condition_text (state current.entry) ≡ option_map (λ t. chars t.now) result }
-{
-    let past = State {
-        flags: current.flags,
-        rest: after(current.rest, '(')?,
-    };
-    let Ok(question) = skip_layout(past) else {
-        return None;
-    };
-    after_word(question, "?(")
 }

@@ -8,15 +8,16 @@ ghost use Rattle.fancy_grammar.specs.Depth.{max_depth};
 ghost use Rattle.fancy_grammar.specs.Items.{items};
 ghost use Rattle.fancy_syntax.specs.Decided.{decided, all_decided};
 ghost use Rattle.fancy_syntax.specs.Found.{FindsMore, openings_found};
-ghost use Rattle.fancy_syntax.specs.Log.{Log, branches_opened, group_opened};
+ghost use Rattle.fancy_syntax.specs.Log.{Log, branches_opened, group_opened, body_opened};
 ghost use Rattle.fancy_syntax.specs.Machine as machine;
 ghost use Rattle.fancy_syntax.specs.Machine.{OpensPart, Part, IsPart, GivesStep, EndsPiece, part_of, TurnsLast};
-ghost use Rattle.fancy_syntax.specs.Recording.{added, quants_recorded};
+ghost use Rattle.fancy_syntax.specs.Recording.{added, atom_read, quants_recorded};
 ghost use Rattle.fancy_syntax.specs.Parsed.{group_kind, state};
 ghost use Rattle.fancy_grammar.specs.Quantified.{quants};
+ghost use Rattle.fancy_grammar.specs.Spans.{condition_span};
 ghost use Rattle.fancy_grammar.specs.State as states;
 ghost use Rattle.fancy_grammar.specs.Tree.{Tree};
-ghost use Rattle.fancy_syntax.specs.View.{views};
+ghost use Rattle.fancy_syntax.specs.View.{view, views};
 
 use crate::expr::Expr;
 use crate::grammar::atom::read_atom_start;
@@ -30,10 +31,10 @@ use crate::grammar::quantified::quantify;
 use crate::grammar::recorded::part_between;
 use crate::grammar::spanning::Spanning;
 use crate::grammar::state::{State, skip_layout};
-use crate::grammar::trees::{leave_out_empty, push};
+use crate::grammar::trees::{is_empty, leave_out_empty, push};
 use crate::trivium::TriviumKind;
 use fancy_lex::error::ReadError;
-use fancy_lex::text::{byte_len, reach};
+use fancy_lex::text::{Reach, byte_len, reach, reach_before};
 use std::alloc::{AllocError, Global};
 
 /// Reads a piece and adds its tree to the list, unless it is Empty; or reads the opening of a group, up to its contents,
@@ -70,7 +71,7 @@ pub(crate) fn read_step<'a, S: Spanning>(
             Ok(None)
         }
         AtomStart::Read(atom) => {
-            spans.record_atom(alloc, before, &atom, *current)?;
+            record_atom(alloc, before, &atom, *current, spans)?;
             found.record(&atom);
             push(trees, atom)?;
             end_piece(alloc, trees, current, left, depth, spans)?;
@@ -86,8 +87,8 @@ pub(crate) fn read_step<'a, S: Spanning>(
             record_branches(alloc, before, *current, spans)?;
             Ok(Some(OpenPart::Condition))
         }
-        AtomStart::Body(condition) => {
-            spans.open_body(alloc, before, *current)?;
+        AtomStart::Body { condition, start } => {
+            record_condition(alloc, before, start, *current, spans)?;
             found.record(&condition);
             Ok(Some(OpenPart::Body {
                 condition,
@@ -99,6 +100,30 @@ pub(crate) fn read_step<'a, S: Spanning>(
             Ok(Some(OpenPart::First))
         }
     }
+}
+
+/// Records an atom that is read at once: a leaf, or inline flags, whose tree is an Empty.
+#[inline(always)]
+fn record_atom<S: Spanning>(
+    alloc: Global,
+    start: State,
+    atom: &Expr,
+    end: State,
+    spans: &mut S,
+) -> Result<(), AllocError>
+    ensures { (l : Log) → S.records spans.old l → OnOk result (S.records spans.new
+        (atom_read (state start.entry) (states.done (view atom.now) (state end.entry)) l)) }
+{
+    spans.record_leaf(reach(start.rest), reach(end.rest))?;
+    let is_flags = is_empty(atom);
+    if is_flags {
+        let kind = TriviumKind::InlineFlags {
+            before: start.flags,
+            after: end.flags,
+        };
+        spans.pass(part_between(start, end, kind, false))?;
+    }
+    spans.pass_start(alloc, start, end.rest, is_flags)
 }
 
 /// Records the opening of a group of one alternation, whose contents begin at `inside`. A flag group has no node.
@@ -149,6 +174,26 @@ fn record_branches<S: Spanning>(
 {
     spans.open(reach(start.rest), reach(inside.rest))?;
     spans.pass_start(alloc, start, inside.rest, false)
+}
+
+/// Records the opening of a conditional whose condition, no alternation, begins at the reach. Its body begins at `inside`.
+#[inline(always)]
+fn record_condition<S: Spanning>(
+    alloc: Global,
+    start: State,
+    condition: Reach,
+    inside: State,
+    spans: &mut S,
+) -> Result<(), AllocError>
+    requires { condition ≡ (condition_span (state start) (state inside)).start }
+    ensures { (l : Log) → S.records spans.old l → OnOk result (S.records spans.new
+        (body_opened (state start.entry) (state inside.entry) l)) }
+{
+    spans.open(reach(start.rest), condition)?;
+    spans.pass_start(alloc, start, inside.rest, false)?;
+    spans.record_leaf(condition, reach_before(inside.rest))?;
+    spans.begin_body(inside.rest);
+    Ok(())
 }
 
 /// Reads the quantifiers of the last tree, an atom, and leaves it out if it is Empty.

@@ -10,32 +10,14 @@ use crate::expr::Expr;
 fn is_resolved(node: &Expr, groups: usize) -> bool
     ensures { result ≡ spec.is_resolved groups (view node.now) }
 {
-    match node {
-        Expr::Backref { group, .. }
-        | Expr::BackrefWithRelativeRecursionLevel { group, .. }
-        | Expr::BackrefExistsCondition { group, .. }
-        | Expr::SubroutineCall(group) => *group <= groups,
-        Expr::AstNode(..) => false,
-        Expr::Empty
-        | Expr::Any { .. }
-        | Expr::Assertion(_)
-        | Expr::GeneralNewline { .. }
-        | Expr::Literal { .. }
-        | Expr::LiteralBytes { .. }
-        | Expr::Concat(_)
-        | Expr::Alt(_)
-        | Expr::Group(_)
-        | Expr::LookAround(..)
-        | Expr::Repeat { .. }
-        | Expr::Delegate { .. }
-        | Expr::AtomicGroup(_)
-        | Expr::KeepOut
-        | Expr::ContinueFromPreviousMatchEnd
-        | Expr::Conditional { .. }
-        | Expr::BacktrackingControlVerb(_)
-        | Expr::Absent(_)
-        | Expr::DefineGroup { .. } => true,
+    if let Expr::Backref { group, .. }
+    | Expr::BackrefWithRelativeRecursionLevel { group, .. }
+    | Expr::BackrefExistsCondition { group, .. }
+    | Expr::SubroutineCall(group) = node
+    {
+        return *group <= groups;
     }
+    !matches!(node, Expr::AstNode(..))
 }
 
 /// Whether this is so for each node of the tree.

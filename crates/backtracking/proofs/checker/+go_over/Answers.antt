@@ -1,5 +1,4 @@
-use Rattle.std.proofs.Common.{◌≤◌, arith, sym, ◌∙◌, subst}
-use Rattle.std.proofs.lemmas.Bool.{false≢true}
+use Rattle.std.proofs.Common.{◌≤◌, arith, sym, subst}
 use Rattle.fancy_grammar.specs.Tree.{levels, levels_all, trees_of}
 use Rattle.fancy_syntax.proofs.Descents.{levels_item}
 use Rattle.fancy_syntax.specs.View.{view, views}
@@ -7,31 +6,26 @@ use Rattle.backtracking.specs.TwoWays.{Goes, Turns, no_turn}
 use Rattle.backtracking.specs.Remains.{rest_of}
 use Rattle.backtracking.proofs.WayLemmas.{weaker, at_some, went_empty, went_group, went_concat, went_next, went_all}
 use Rattle.backtracking.proofs.WayLemmas.{went_branch, went_turn, went_repeat}
-use Rattle.backtracking.proofs.checker.+go_over.Goals.{go_over-in-Empty, go_over-in_default}
 use Rattle.backtracking.proofs.checker.+go_over.Goals as goal
 
-pub go_over-returns-in-Leaf : goal.go_over-returns-in-Leaf
-go_over-returns-in-Leaf t c = elim c.match-matches.branch [
-  | go_over-in-Empty w ↦ went_empty c.args.unicode c.args.tree.now _ w.in-Empty.is
-  | go_over-in_default w ↦ absurd (false≢true (sym w.matches-is ∙ c.if-matches.true))
-]
+pub go_over-returns-in-Empty : goal.go_over-returns-in-Empty
+go_over-returns-in-Empty t c = went_empty c.args.unicode (view c.args.tree.now) (rest_of c.args.from) c.in-Empty.ensures
 
-pub go_over-returns-in-Around-Group-default : goal.go_over-returns-in-Around-Group-default
-go_over-returns-in-Around-Group-default t c =
-    let node = rw c.in-Around-Group-default.field-0-is at c.in-Around-Group-default.ensures.node in
-    weaker _ _ _ (λ u k. went_group c.args.unicode (view c.args.tree.now) _ (rest_of c.args.from) (rest_of u) node k)
-    c.go_over.ensures
+pub go_over-returns-in-Group : goal.go_over-returns-in-Group
+go_over-returns-in-Group t c =
+    weaker _ _ _ (λ u k. went_group c.args.unicode (view c.args.tree.now) _ (rest_of c.args.from) (rest_of u)
+    c.in-Group.ensures k) c.go_over.ensures
 
-pub go_over-returns-in-Around-Repeat-default : goal.go_over-returns-in-Around-Repeat-default
-go_over-returns-in-Around-Repeat-default t c =
-    let node = rw c.in-Around-Repeat-default.field-0-is at c.in-Around-Repeat-default.ensures.node in
-    weaker _ _ _ (λ u k. subst (λ t. Goes c.args.unicode t (rest_of c.args.from) (rest_of u)) (sym node)
-    (k _)) c.go_over_repeat.ensures
+pub go_over-returns-in-Repeat : goal.go_over-returns-in-Repeat
+go_over-returns-in-Repeat t c =
+    let (greedy, node) = c.in-Repeat.ensures in
+    weaker _ _ _ (λ u k. subst (λ t. Goes c.args.unicode t (rest_of c.args.from) (rest_of u)) (sym node) (k greedy))
+    c.go_over_repeat.ensures
 
 pub go_over-returns-in-Concat : goal.go_over-returns-in-Concat
 go_over-returns-in-Concat t c =
     weaker _ _ _ (λ u k. went_concat c.args.unicode (view c.args.tree.now) _ (rest_of c.args.from) (rest_of u)
-    c.in-Concat.ensures.node k) c.go_over_all.ensures
+    c.in-Concat.ensures k) c.go_over_all.ensures
 
 pub go_over_all-go_over-requires : goal.go_over_all-go_over-requires
 go_over_all-go_over-requires t c =

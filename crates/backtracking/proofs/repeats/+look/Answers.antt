@@ -5,7 +5,8 @@ use Rattle.fancy_syntax.specs.Tree.{levels}
 use Rattle.fancy_syntax.specs.View.{view, views}
 use Rattle.fancy_syntax.proofs.Descents.{within_start, within_first, within_next, levels_of_child}
 use Rattle.backtracking.specs.SlowRepeats.{IsSlowIn, IsLooked}
-use Rattle.backtracking.proofs.RepeatLemmas.{child_of, one_more, remain_start, remain_first, remain_next}
+use Rattle.fancy_syntax.proofs.NodeLemmas.{child_of, remain_start, remain_first, remain_next}
+use Rattle.backtracking.proofs.RepeatLemmas.{one_more}
 use Rattle.backtracking.proofs.repeats.+look.Goals as goal
 
 pub returns-in-Slow : goal.returns-in-Slow

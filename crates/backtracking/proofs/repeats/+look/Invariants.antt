@@ -1,11 +1,11 @@
 use Rattle.std.proofs.Common.{map}
 use Rattle.std.specs.List.{AllByRecursion}
-use Rattle.fancy_syntax.specs.Spanned.{Spanned, remaining_spanned, spanned_of}
+use Rattle.fancy_syntax.specs.Spanned.{Spanned, remaining_spanned, spanned_of, IsNodeOf}
 use Rattle.fancy_syntax.specs.Tree.{levels}
 use Rattle.fancy_syntax.specs.View.{view}
 use Rattle.fancy_syntax.proofs.Descents.{Within}
-use Rattle.backtracking.specs.SlowRepeats.{IsNodeOf, IsSlowIn}
-use Rattle.backtracking.proofs.RepeatLemmas.{Remain}
+use Rattle.backtracking.specs.SlowRepeats.{IsSlowIn}
+use Rattle.fancy_syntax.proofs.NodeLemmas.{Remain}
 use Rattle.backtracking.proofs.repeats.+look.Given as goal
 
 abbrev pub decreases-look : goal.decreases-look

@@ -1,7 +1,7 @@
 use Rattle.std.proofs.Common.{sym, subst}
 use Rattle.std.specs.List.{AllByRecursion}
-use Rattle.fancy_syntax.specs.Spanned.{spanned_of_tree}
-use Rattle.backtracking.specs.SlowRepeats.{IsNodeOf, root, IsSlowIn}
+use Rattle.fancy_syntax.specs.Spanned.{spanned_of_tree, IsNodeOf, root}
+use Rattle.backtracking.specs.SlowRepeats.{IsSlowIn}
 use Rattle.backtracking.proofs.repeats.slow_repeats.Goals as goal
 
 pub returns : goal.returns

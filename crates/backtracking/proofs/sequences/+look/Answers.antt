@@ -3,7 +3,7 @@ use Rattle.fancy_syntax.specs.Spanned.{remaining_spanned, spanned_of}
 use Rattle.fancy_syntax.specs.Tree.{levels}
 use Rattle.fancy_syntax.specs.View.{view, views}
 use Rattle.fancy_syntax.proofs.Descents.{within_start, within_first, within_next, levels_of_child}
-use Rattle.backtracking.proofs.RepeatLemmas.{child_of, remain_start, remain_first, remain_next}
+use Rattle.fancy_syntax.proofs.NodeLemmas.{child_of, remain_start, remain_first, remain_next}
 use Rattle.backtracking.proofs.sequences.+look.Goals as goal
 
 pub loop-child-init : goal.loop-child-init

@@ -1,12 +1,11 @@
 use Rattle.std.proofs.Common.{map}
 use Rattle.std.specs.List.{AllByRecursion}
-use Rattle.fancy_syntax.specs.Spanned.{Spanned, remaining_spanned, spanned_of}
+use Rattle.fancy_syntax.specs.Spanned.{Spanned, remaining_spanned, spanned_of, IsNodeOf}
 use Rattle.fancy_syntax.specs.Tree.{levels}
 use Rattle.fancy_syntax.specs.View.{view}
 use Rattle.fancy_syntax.proofs.Descents.{Within}
-use Rattle.backtracking.specs.SlowRepeats.{IsNodeOf}
 use Rattle.backtracking.specs.SlowSequences.{IsSlowSequenceIn}
-use Rattle.backtracking.proofs.RepeatLemmas.{Remain}
+use Rattle.fancy_syntax.proofs.NodeLemmas.{Remain}
 use Rattle.backtracking.proofs.sequences.+look.Given as goal
 
 abbrev pub decreases-look : goal.decreases-look

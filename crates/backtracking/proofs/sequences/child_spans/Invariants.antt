@@ -1,6 +1,5 @@
 use Rattle.std.proofs.Common.{◌≡◌, ◌++◌, map}
-use Rattle.fancy_syntax.specs.Spanned.{remaining_spanned, spanned_of, first_span}
-use Rattle.backtracking.specs.SlowRepeats.{spanned_children}
+use Rattle.fancy_syntax.specs.Spanned.{remaining_spanned, spanned_of, first_span, spanned_children}
 use Rattle.backtracking.proofs.sequences.child_spans.Given as goal
 
 abbrev pub invariant-loop-child : goal.invariant-loop-child

@@ -1,8 +1,11 @@
-use Rattle.std.proofs.Common.{sym, ◌∙◌, subst}
-use Rattle.std.proofs.Math.Numerals.{add-one}
+use Rattle.std.proofs.Common.{sym, subst, arith}
 use Rattle.fancy_syntax.specs.View.{view, views}
+use Rattle.backtracking.proofs.ChainLemmas.{last_of_chain, ways_through}
 use Rattle.backtracking.specs.Across.{IsAcross, IsPolynomial}
-use Rattle.backtracking.specs.SlowSequences.{IsChain, more}
+use Rattle.backtracking.specs.Chain.{Chain, next, last_part}
+use Rattle.backtracking.specs.ManySplits.{HasManySplits}
+use Rattle.backtracking.specs.SlowSequences.{IsChain, more, IsCut, link_of}
+use Rattle.backtracking.specs.ThreeWays.{AreThreeWays}
 use Rattle.backtracking.proofs.sequences.look_at_cut.Goals as goal
 
 pub returns : goal.returns
@@ -10,32 +13,31 @@ returns c all =
     let unicode = c.args.options.unicode in
     let trees = views c.args.row.trees.now in
     let w = c.in-Polynomial.witness in
+    let word = w.word.items in
     let cut = c.in-Some.cut in
-    let x = view cut.first.now in
     let ts = views cut.between.now in
     let y = view cut.last.now in
-    let three = subst (IsAcross unicode x ts y) c.in-Polynomial.is c.in_ok-witness.ensures.witnessed in
-    let earlier : IsChain unicode trees w.word.items c.args.first c.chain_to.result =
-    subst (λ word. IsChain unicode trees word c.args.first c.chain_to.result) c.deref-2.ensures.value
-    (c.chain_to.ensures unicode trees c.args.row.spans.now all) in
+    let to_first = c.chain_to.ensures unicode trees c.args.row.spans.now (view cut.first.now) c.in-Some.ensures.first all in
+    let chain : Chain = to_first.0 in
+    let earlier : IsChain unicode trees word chain c.args.first =
+    subst (λ word. IsChain unicode trees word chain c.args.first) c.deref-2.ensures.value to_first.1 in
+    let last = sym (last_of_chain unicode trees word chain c.args.first (view cut.first.now) earlier c.in-Some.ensures.first) in
+    let is_cut : IsCut trees c.args.first c.args.last (last_part chain) ts y =
+    subst (λ x. IsCut trees c.args.first c.args.last x ts y) last c.in-Some.ensures in
+    let three : AreThreeWays unicode (last_part chain) ts y word w.first.items w.across.items w.last.items =
+    subst (λ x. AreThreeWays unicode x ts y word w.first.items w.across.items w.last.items) last
+    (subst (IsAcross unicode (view cut.first.now) ts y) c.in-Polynomial.is c.in_ok-witness.ensures.witnessed) in
     record {
       i = c.args.first;
-      x = x;
+      earlier = chain;
       ts = ts;
       y = y;
-      cut = c.in-Some.ensures;
+      chain = earlier;
+      cut = is_cut;
       span = c.in-Some-span_across.ensures;
-      chain = subst (IsChain unicode trees w.word.items c.args.last) (sym (c.in-Some-checked_add.ensures.1 ∙ add-one _))
-          (more earlier (record {
-            x = x;
-            ts = ts;
-            y = y;
-            cut = c.in-Some.ensures;
-            ds = w.first.items;
-            es = w.across.items;
-            fs = w.last.items;
-            three = three;
-          }));
       three = three;
-      many = subst (IsPolynomial unicode x ts y) c.in-Polynomial.is c.in_ok-witness.ensures.polynomial;
+      many = subst (λ x. HasManySplits unicode x ts y word w.first.items w.across.items w.last.items) last
+          (subst (IsPolynomial unicode (view cut.first.now) ts y) c.in-Polynomial.is c.in_ok-witness.ensures.polynomial);
+      degree = let e = to_first.2 in let d = c.in-Some-checked_add.ensures.1 in omega (arith, e, d);
+      through = ways_through unicode trees word (next chain (link_of ts y w)) c.args.last (more earlier is_cut three);
     }

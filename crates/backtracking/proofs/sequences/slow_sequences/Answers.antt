@@ -1,7 +1,6 @@
 use Rattle.std.proofs.Common.{sym, subst}
 use Rattle.std.specs.List.{AllByRecursion}
-use Rattle.fancy_syntax.specs.Spanned.{spanned_of_tree}
-use Rattle.backtracking.specs.SlowRepeats.{IsNodeOf, root}
+use Rattle.fancy_syntax.specs.Spanned.{spanned_of_tree, IsNodeOf, root}
 use Rattle.backtracking.specs.SlowSequences.{IsSlowSequenceIn}
 use Rattle.backtracking.proofs.sequences.slow_sequences.Goals as goal
 

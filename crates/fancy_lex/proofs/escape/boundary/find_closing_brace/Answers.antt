@@ -1,7 +1,6 @@
-use Rattle.std.proofs.Common.{suc, pred, length, chars, refl, ◌∙◌, ◌++◌, ◌∷◌, [], arith, sym, subst, rules}
+use Rattle.std.proofs.Common.{suc, pred, length, chars, refl, ◌∙◌, ◌++◌, ◌∷◌, [], arith, rules}
 use Rattle.std.proofs.lemmas.Result.{err_from_is_err_and}
 use Rattle.fancy_lex.specs.ErrorTable.{boundary_start}
-use Rattle.fancy_lex.specs.Reading.{Reports}
 use Rattle.fancy_lex.proofs.BoundaryLemmas.{name_error_from, name_error_close, name_error_step, step_length}
 use Rattle.fancy_lex.proofs.escape.boundary.find_closing_brace.Goals as goal
 
@@ -10,13 +9,13 @@ returns-in_err-c c =
     let p = err_from_is_err_and c.from_residual.result c.from_residual.ensures.1 in
     record {
       found = search (rules, p);
-      error = rw (p.1, p.2) (λ negated. let (k, m, out, same) = c.loop-c.invariant.same negated in
-          subst (Reports c.in_err-c.field-0.0) (sym same) (c.in_err-c.ensures.value k out (omega arith)));
+      error = rw (p.1, p.2) (λ reach negated. let (k, m, out, same) = c.loop-c.invariant.same reach negated in
+          same ∙ c.in_err-c.ensures.value reach k out (omega arith));
     }
 
 pub returns-then-c-eq125 : goal.returns-then-c-eq125
 returns-then-c-eq125 c = record {
-  found = λ negated. let (k, m, out, same) = c.loop-c.invariant.same negated in
+  found = λ reach negated. let (k, m, out, same) = c.loop-c.invariant.same reach negated in
       rw (same ∙ name_error_close _ _ _ _ _ c.in_ok-c.ensures.value _ _ refl k (out ++ c.in_ok-c.c ∷ []) (omega arith)
       c.if-c-eq125.true refl) refl;
   error = search rules;
@@ -25,7 +24,7 @@ returns-then-c-eq125 c = record {
 pub loop-c-init : goal.loop-c-init
 loop-c-init c = record {
   text = search rules;
-  same = λ negated. (
+  same = λ reach negated. (
     suc (length (chars c.args.text.now)),
     omega arith,
     boundary_start negated,
@@ -36,7 +35,7 @@ loop-c-init c = record {
 pub loop-c-preserved : goal.loop-c-preserved
 loop-c-preserved c = record {
   text = search rules;
-  same = λ negated. let (k, m, out, same) = c.loop-c.invariant.same negated in (
+  same = λ reach negated. let (k, m, out, same) = c.loop-c.invariant.same reach negated in (
     pred k,
     step_length _ _ _ _ _ k c.in_ok-c.ensures.value refl m,
     out ++ c.in_ok-c.c ∷ [],

@@ -18,7 +18,7 @@ use Rattle.fancy_grammar.specs.Quantified.{quants}
 use Rattle.fancy_syntax.proofs.DecidedLemmas.{decided_alone, decided_solid, quants_kept}
 use Rattle.fancy_syntax.proofs.FoundLemmas.{condition_alone, leaf_alone, nothing_more}
 use Rattle.fancy_syntax.proofs.ItemsReadLemmas.{items_solid, items_under}
-use Rattle.fancy_syntax.proofs.StepLemmas.{nothing_shorter}
+use Rattle.fancy_syntax.proofs.StepLemmas.{condition_begins, nothing_shorter}
 use Rattle.fancy_syntax.proofs.MachineLemmas.{AtomTo, steps_piece, steps_error, steps_layout}
 use Rattle.fancy_grammar.proofs.OutcomeLemmas.{IsErrorAmong-map}
 use Rattle.fancy_syntax.proofs.TreeLemmas.{view_Empty}
@@ -154,8 +154,8 @@ returns-in_ok-record_branches-in-Condition-clause-value g c i l ts e w =
       ),
     )
 
-pub returns-in_ok-open_body-in-Body-clause-value : goal.returns-in_ok-open_body-in-Body-clause-value
-returns-in_ok-open_body-in-Body-clause-value g c i l ts e w =
+pub returns-in_ok-record_condition-in-Body-clause-value : goal.returns-in_ok-record_condition-in-Body-clause-value
+returns-in_ok-record_condition-in-Body-clause-value g c i l ts e w =
     let seen = rw c.in-Body.is at c.in_ok-read_atom_start.ensures.value in (
       _,
       ts,
@@ -169,7 +169,7 @@ returns-in_ok-open_body-in-Body-clause-value g c i l ts e w =
         refl,
       ),
       (
-        λ x. c.in_ok-open_body-in-Body.ensures _ (c.in_ok-pass_layout.ensures l x),
+        λ x. c.in_ok-record_condition-in-Body.ensures _ (c.in_ok-pass_layout.ensures l x),
         rw c.deref.ensures at c.record-in-Body.ensures.found,
       ),
     )
@@ -194,3 +194,8 @@ record-requires g c = leaf_alone _ _ (rw c.in-Read.is at c.in_ok-read_atom_start
 pub record-requires-in-Body : goal.record-requires-in-Body
 record-requires-in-Body g c =
     rw c.deref.ensures (condition_alone _ _ (rw c.in-Body.is at c.in_ok-read_atom_start.ensures.value))
+
+pub record_condition-requires : goal.record_condition-requires
+record_condition-requires g c =
+    condition_begins _ _ _ _ _ (rw c.in-Body.is at c.in_ok-read_atom_start.ensures.value)
+    (rw c.in-Body.is at c.in_ok-read_atom_start.ensures.start)

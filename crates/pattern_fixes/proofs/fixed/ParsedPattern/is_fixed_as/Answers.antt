@@ -4,11 +4,12 @@ use Rattle.fancy_grammar.specs.Trivia.{comment_texts}
 use Rattle.fancy_syntax.specs.InfoViews.{info_of}
 use Rattle.fancy_syntax.specs.TriviaViews.{trivia_of, trivium_of}
 use Rattle.fancy_syntax.specs.View.{view}
-use Rattle.pattern_fixes.proofs.FixedLemmas.{text_case}
+use Rattle.pattern_fixes.proofs.FixedLemmas.{if_true, text_case}
+use Rattle.pattern_fixes.proofs.MatchesLemmas.{keeps_matches}
 use Rattle.pattern_fixes.proofs.fixed.ParsedPattern.is_fixed_as.Goals as goal
 
-pub returns : goal.returns
-returns c =
+pub returns-clause-fixed : goal.returns-clause-fixed
+returns-clause-fixed c =
     let old = c.args.self.now.tree.now in
     let text = c.args.text.now in
     let parsed = rw c.in-Ok.is at c.parse_tree_with_trivia.ensures.tree in
@@ -19,3 +20,10 @@ returns c =
     parsed_trivia.found ?
     (c.has_same_groups.ensures c.if-not-has_same_groups.false)
     (ap (λ f. f.unicode) c.from_bits-unicode.ensures) c.is_fixed.ensures
+
+pub returns-clause-matches : goal.returns-clause-matches
+returns-clause-matches c =
+    let old = c.args.self.now.tree.now in
+    if_true c.is_fixed.result
+    (keeps_matches (flags_of c.args.self.now.flags) (chars c.args.text.now) (view old.expr) (info_of old))
+    (returns-clause-fixed c)

@@ -1,0 +1,26 @@
+-- What a node is to the searches.
+use Rattle.std.specs.Prelude.{◌≡◌, Bool, true, false}
+use Rattle.fancy_grammar.specs.Tree.{Tree, empty, group, repeat, concat, alt, trees_of}
+use Rattle.fancy_syntax.specs.View.{view, views}
+use Rattle.backtracking.specs.OneCharacter.{is_character}
+use Rattle.backtracking.specs.declared.regular_shape.RegularShape.{RegularShape}
+use Rattle.backtracking.specs.declared.regular_shape.RegularShape.TheVariants as shape
+
+-- the node is of a kind that has ways
+abbrev pub is_regular : Tree → Bool
+is_regular empty = true
+is_regular (group t) = true
+is_regular (repeat t lo hi greedy) = true
+is_regular (concat ts) = true
+is_regular (alt ts) = true
+is_regular t = is_character t
+
+-- the tree has this shape
+abbrev pub HasRegularShape : RegularShape → Tree → Type 0
+HasRegularShape shape.Empty t = t ≡ empty
+HasRegularShape shape.Character t = is_character t ≡ true
+HasRegularShape (shape.Group child) t = t ≡ group (view child.now)
+HasRegularShape (shape.Repeat child lo hi) t = (greedy : Bool) × (t ≡ repeat (view child.now) lo hi greedy)
+HasRegularShape (shape.Concat trees) t = t ≡ concat (trees_of (views trees.now))
+HasRegularShape (shape.Alt trees) t = t ≡ alt (trees_of (views trees.now))
+HasRegularShape shape.Irregular t = is_regular t ≡ false

@@ -1,0 +1,62 @@
+//! What the searches go into at a node.
+ghost use Rattle.fancy_syntax.specs.View.{view};
+ghost use Rattle.backtracking.specs.RegularShape.{HasRegularShape};
+
+use crate::characters::is_one_character;
+use fancy_syntax::expr::{Expr, Shape, Wrap};
+
+/// What a node is to the searches. Each variant but the last has ways of its own.
+#[derive(Clone, Copy)]
+pub(crate) enum RegularShape<'a> {
+    /// An `Empty`.
+    Empty,
+    /// A node that matches one character.
+    Character,
+    /// A `Group` of the child.
+    Group(&'a Expr),
+    /// A `Repeat` of the child, from `lo` to `hi` times.
+    Repeat {
+        child: &'a Expr,
+        lo: usize,
+        hi: usize,
+    },
+    /// The pieces of a `Concat`.
+    Concat(&'a [Expr]),
+    /// The branches of an `Alt`.
+    Alt(&'a [Expr]),
+    /// Any other node, as look-around, a reference or an atomic group. No search goes into it.
+    Irregular,
+}
+
+/// What the node is to the searches.
+pub(crate) fn regular_shape(tree: &Expr) -> RegularShape<'_>
+    ensures { HasRegularShape result (view tree.now) }
+{
+    match tree.shape() {
+        Shape::Leaf => {
+            if matches!(tree, Expr::Empty) {
+                RegularShape::Empty
+            } else if is_one_character(tree) {
+                RegularShape::Character
+            } else {
+                RegularShape::Irregular
+            }
+        }
+        Shape::Around(Wrap::Group, child) => RegularShape::Group(child),
+        Shape::Around(Wrap::Repeat { lo, hi, .. }, child) => {
+            RegularShape::Repeat { child, lo, hi }
+        }
+        Shape::Concat(trees) => RegularShape::Concat(trees),
+        Shape::Alt(branches) => RegularShape::Alt(branches),
+        Shape::Around(
+            Wrap::LookAround(_)
+            | Wrap::AtomicGroup
+            | Wrap::DefineGroup
+            | Wrap::Repeater
+            | Wrap::Stopper,
+            _,
+        )
+        | Shape::Conditional { .. }
+        | Shape::Expression { .. } => RegularShape::Irregular,
+    }
+}

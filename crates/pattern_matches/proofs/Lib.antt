@@ -1,0 +1,11 @@
+pub mod TextLemmas
+pub mod ReplaceLemmas
+pub mod RepeatLemmas
+pub mod EngineLemmas
+pub mod NodeLemmas
+pub mod AltLemmas
+pub mod CharacterLemmas
+pub mod UnpositionedLemmas
+pub mod BeginningLemmas
+pub mod LeastLemmas
+pub mod MostLemmas
