@@ -197,7 +197,7 @@ mutual
       ∙ ap (λ z. z ++ closing_of h (end_of o)) (inside_after i p (q ++ opening_of h s t))
       ∙ append_assoc p (inside_trivia i (q ++ opening_of h s t)) (closing_of h (end_of o))
   atom_of_after {s} {o} (a_condition {t} {v} i b) p q =
-      let k = inner_at false s t.rest in
+      let k = inner_at s (reach_of t.rest) in
       let d = with_dropped (reach_of s.rest) (reach_of t.rest) q in
       let r = d ++ k in
       conditional_after (leaves_condition b) (reach_of v.rest + 1) (end_of o) (body_trivia b []) p _ (inside_trivia i r) _ _
@@ -209,10 +209,10 @@ mutual
       ∙ ap (filled (reach_of v.rest + 1) (end_of o) (body_trivia b [])) (inside_after i p r)
       ∙ filled_after (body_trivia b []) (reach_of v.rest + 1) (end_of o) p (inside_trivia i r))
   atom_of_after {s} (condition_error {t} i) p q =
-      let k = inner_at false s t.rest in ap (inside_trivia i) (append_assoc p q k) ∙ inside_after i p (q ++ k)
+      let k = inner_at s (reach_of t.rest) in ap (inside_trivia i) (append_assoc p q k) ∙ inside_after i p (q ++ k)
   atom_of_after {s} {o} (a_body {t} b) p q =
       let start = (condition_span s t).start in
-      let k = inner_at false s t.rest in
+      let k = inner_at s start in
       let d = with_dropped (reach_of s.rest) start q in
       let r = d ++ k in
       conditional_after (leaves_condition b) (reach_of t.rest + 1) (end_of o) (body_trivia b []) p _ r _ _
@@ -222,13 +222,13 @@ mutual
       ∙ ap (filled (reach_of t.rest + 1) (end_of o) (body_trivia b [])) (append_assoc p d k)
       ∙ filled_after (body_trivia b []) (reach_of t.rest + 1) (end_of o) p r)
   atom_of_after {s} (two_branches {t} b e m) p q =
-      let k = inner_at false s t.rest in
+      let k = inner_at s (reach_of t.rest) in
       ap (λ z. branch_trivia m (branch_trivia b z)) (append_assoc p q k)
       ∙ ap (branch_trivia m) (branch_after b p (q ++ k)) ∙ branch_after m p (branch_trivia b (q ++ k))
   atom_of_after {s} (one_branch {t} b e) p q =
-      let k = inner_at false s t.rest in ap (branch_trivia b) (append_assoc p q k) ∙ branch_after b p (q ++ k)
+      let k = inner_at s (reach_of t.rest) in ap (branch_trivia b) (append_assoc p q k) ∙ branch_after b p (q ++ k)
   atom_of_after {s} (absent_error {t} b) p q =
-      let k = inner_at false s t.rest in ap (branch_trivia b) (append_assoc p q k) ∙ branch_after b p (q ++ k)
+      let k = inner_at s (reach_of t.rest) in ap (branch_trivia b) (append_assoc p q k) ∙ branch_after b p (q ++ k)
 
   inside_after : {d : ℕ} {s : State} {o : Outcome Tree} (a : Inside d s o) (p q : List Passed) →
       inside_trivia a (p ++ q) ≡ p ++ inside_trivia a q

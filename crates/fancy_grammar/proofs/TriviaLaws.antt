@@ -1,6 +1,6 @@
 -- What the tree of a text does not hold lies in the text, one part after another.
 use Rattle.std.proofs.Common.{◌≡◌, ℕ, zero, suc, ◌+◌, ◌==◌, nat_lt, Bool, true, false, if◌then◌else◌, List, [], ◌∷◌, ◌++◌}
-use Rattle.std.proofs.Common.{Option, Some, None, chars, refl, sym, ap, subst, arith, append-nil, ◌&&◌, not, length}
+use Rattle.std.proofs.Common.{Option, Some, None, chars, refl, sym, ap, subst, arith, append-nil, ◌&&◌, not, length, codes, ◌⊎◌, inl, inr}
 use Rattle.std.specs.Option.{option_and_then}
 use Rattle.std.specs.List.{AllByRecursion}
 use Rattle.std.specs.Str.{IsUtf8}
@@ -33,14 +33,14 @@ use Rattle.fancy_grammar.specs.Quantified.{quants, adjacent, max_adjacent, is_un
 use Rattle.fancy_grammar.specs.Quantified.{suffix, after_lazy, may_be_possessive, is_repeatable, is_dropped}
 use Rattle.fancy_grammar.specs.Quantified.{Suffix, quantified}
 use Rattle.fancy_grammar.specs.Slices.{Slice}
-use Rattle.fancy_grammar.specs.Spans.{IsCutOut, condition_span, end_of, if_done}
+use Rattle.fancy_grammar.specs.Spans.{IsCutOut, condition_span, condition_text, end_of, if_done}
 use Rattle.fancy_grammar.specs.State.{State, at, skipped, after_skipped, Outcome, done, failed, and_then, mapped}
 use Rattle.fancy_grammar.specs.Tree.{Tree, expression}
 use Rattle.fancy_grammar.specs.Trivia.{Trivium, Passed, part, flags, opening, closing, IsTriviaOf, IsPartOf, AreInOrder}
-use Rattle.fancy_grammar.proofs.StartLaws.{HasStart, has_start, counts_inner}
-use Rattle.fancy_grammar.proofs.TriviaLemmas.{InToken, one_with, inside_pass, dropped_with}
+use Rattle.fancy_grammar.proofs.StartLaws.{HasStart, HasText, before_condition, counts_inner, has_start, start_inner}
+use Rattle.fancy_grammar.proofs.TriviaLemmas.{InToken, one_with, inside_pass, dropped_with, nothing_dropped}
 use Rattle.fancy_grammar.specs.AtomStart.{read, of_kind}
-use Rattle.fancy_grammar.specs.Trivia.{inner_at, inner_of_counts, the_counts}
+use Rattle.fancy_grammar.specs.Trivia.{inner_at, inner_of_counts, operators, the_counts}
 use Rattle.fancy_grammar.specs.Trivia.{comments_at, parts_of_atom, opening_of, closing_of, quant_trivia, adjacent_trivia}
 use Rattle.fancy_grammar.specs.Trivia.{quants_trivia, alternation_trivia, branches_trivia, branch_trivia, pieces_trivia}
 use Rattle.fancy_grammar.specs.Trivia.{piece_trivia, atom_trivia, atom_of_trivia, inside_trivia, body_trivia, whole_trivia}
@@ -48,40 +48,47 @@ use Rattle.fancy_grammar.specs.Trivia.{with_dropped, filled, layout_end, counted
 use Rattle.fancy_grammar.proofs.AtomStartLaws.{IsLeaf, StartReads, start_reads}
 use Rattle.fancy_grammar.proofs.OutcomeLemmas.{Holds, after_keeps, skipped_both}
 use Rattle.fancy_grammar.proofs.Slices.{Reads, current, on, one, strip_slice}
-use Rattle.fancy_grammar.proofs.SpansCondition.{ConditionLies, condition_lies}
+use Rattle.fancy_grammar.proofs.SpansCondition.{HasConditionText, condition_slice, condition_there}
 use Rattle.fancy_grammar.proofs.TriviaLemmas.{Passes, nothing, one_more, extended, followed, PassesFrom}
 use Rattle.fancy_grammar.proofs.TriviaLemmas.{on_from, mapped_from, then_from, layout_passes, dropped_passes}
-use Rattle.fancy_grammar.proofs.TriviaLemmas.{filled_from, alone_lies, returned_in_order}
+use Rattle.fancy_grammar.proofs.TriviaLemmas.{filled_from, returned_in_order}
 use Rattle.fancy_grammar.proofs.TriviaLemmas.{returned_are_parts, parts_cut}
 
 -- ---- quantifiers
 
--- what is read from the state begins with layout, and ends where the layout ends or later
+-- a word that is empty, or the operators of a quantifier
+abbrev IsSuffix : Text → Type 0
+IsSuffix w = (w ≡ []) ⊎ (w ≡ codes "?") ⊎ (w ≡ codes "+") ⊎ (w ≡ codes "?+")
+
+-- what is read from the state is layout, and such a word
 abbrev EndsPastLayout : State → Outcome Suffix → Type 0
-EndsPastLayout s o = Holds (λ _ (v : State). (t : Text) × (skipped s ≡ rest t) × Slice t v.rest) o
+EndsPastLayout s o =
+    Holds (λ _ (v : State). (t : Text) × (skipped s ≡ rest t) × (k : Slice t v.rest) × IsSuffix k.word) o
 
 -- the operators follow the layout
 suffix_ends : (s : State) (c : Counts) → EndsPastLayout s (suffix s c)
 suffix_ends s c =
     skipped_both W (skipped s) _ _ (λ t e.
-    choose_both W (strip (code "?") t) _ _ (λ u i. after_operator true t u e (strip_slice (code "?") t u i))
-    (after_operator false t t e (current t))) (λ p e. tt)
+    choose_both W (strip (code "?") t) _ _
+    (λ u i. after_operator true t u e (strip_slice (code "?") t u i) (inr (inl refl)) (inr (inr (inr refl))))
+    (after_operator false t t e (current t) (inl refl) (inr (inr (inl refl))))) (λ p e. tt)
   where
     W : Outcome Suffix → Type 0
     W = EndsPastLayout s
 
-    after_operator : (lazy : Bool) (t u : Text) → skipped s ≡ rest t → Slice t u → W (after_lazy s c lazy u)
-    after_operator lazy t u e h =
+    after_operator : (lazy : Bool) (t u : Text) → skipped s ≡ rest t → (h : Slice t u) → IsSuffix h.word →
+        IsSuffix (h.word ++ codes "+") → W (after_lazy s c lazy u)
+    after_operator lazy t u e h one both =
         cond_both (may_be_possessive s.flags c) _ _ W
-        (λ _. choose_both W (strip (code "+") u) _ _ (λ v i. (t, e, on h (strip_slice (code "+") u v i))) (t, e, h))
-        (λ _. (t, e, h))
+        (λ _. choose_both W (strip (code "+") u) _ _ (λ v i. (t, e, on h (strip_slice (code "+") u v i), both))
+        (t, e, h, one)) (λ _. (t, e, h, one))
 
 -- the operators of a quantifier that the tree holds: only comments before them are added
 suffix_passes : (s : State) (c : Counts) (p : List Passed) → PassesFrom s.rest p (p ++ comments_at s) (suffix s c)
 suffix_passes s c p = by_outcome (suffix s c) (suffix_ends s c)
   where
     by_outcome : (o : Outcome Suffix) → EndsPastLayout s o → PassesFrom s.rest p (p ++ comments_at s) o
-    by_outcome (done m v) (t, e, h) = extended (layout_passes s t e p) h
+    by_outcome (done m v) (t, e, h, i) = extended (layout_passes s t e p) h
     by_outcome (failed e) h = tt
 
 -- the operators of a quantifier that is ignored: the comments before them are added, and they are dropped
@@ -95,10 +102,15 @@ ignored_passes s c p = by_outcome (suffix s c) (suffix_ends s c)
 
     by_outcome : (o : Outcome Suffix) → EndsPastLayout s o →
         PassesFrom s.rest p (if_done o (λ m v. with_dropped (layout_end s) (reach_of v.rest) q) q) o
-    by_outcome (done m v) (t, e, h) =
+    by_outcome (done m v) (t, e, h, i) =
         let ends : layout_end s ≡ reach_of t = ap (λ j. choose (rest_of j) reach_of (reach_of s.rest)) e in
         subst (λ n. Passes s.rest v.rest p (with_dropped n (reach_of v.rest) q)) (sym ends)
-        (dropped_passes (layout_passes s t e p) h ?)
+        (by_operators (layout_passes s t e p) h i)
+      where
+        by_operators : {t : Text} → Passes s.rest t p q → (h : Slice t v.rest) → IsSuffix h.word →
+            Passes s.rest v.rest p (with_dropped (reach_of t) (reach_of v.rest) q)
+        by_operators x h (inl i) = nothing_dropped x h i
+        by_operators x h (inr i) = dropped_passes x h (operators i)
     by_outcome (failed e) h = tt
 
 -- a quantifier, if one follows the layout
@@ -127,7 +139,7 @@ quant_passes left a s p = by_layout (skipped s) refl
         inner = inner_of_counts c v u
 
         in_counts : InToken v u inner
-        in_counts = counts_inner s.flags.ignore_space v c u e
+        in_counts = counts_inner c v u read
 
         -- if the tree holds the quantifier
         m : List Passed
@@ -220,17 +232,28 @@ quants_passes d left a s p = by_first (quant left a s) (quant_passes left a s p)
 
 opening_passes : (h : GroupKind) (s t : State) (p : List Passed) (k : Slice s.rest t.rest) →
     HasStart s (of_kind h t) → Passes s.rest t.rest p (p ++ opening_of h s t)
-opening_passes flag_group s t p k i =
-    one_with (opening s.flags t.flags) false k.word (nothing (current s.rest)) k.cut (i.0 k.word k.cut) i.1
-    (current t.rest) refl
-opening_passes (capture None) s t p k i =
-    one_with (opening s.flags t.flags) true k.word (nothing (current s.rest)) k.cut (i.0 k.word k.cut) i.1
-    (current t.rest) refl
-opening_passes (capture (Some name)) s t p k i = inside_pass (nothing (current s.rest)) i
-opening_passes (look l) s t p k i = inside_pass (nothing (current s.rest)) i
-opening_passes atomic s t p k i = inside_pass (nothing (current s.rest)) i
-opening_passes define s t p k i = inside_pass (nothing (current s.rest)) i
-opening_passes repeater s t p k i = inside_pass (nothing (current s.rest)) i
+opening_passes h s t p k i = by_kind h i
+  where
+    inner : InToken s.rest t.rest (inner_at s (reach_of t.rest))
+    inner = start_inner s t.rest k
+
+    bare : Passes s.rest t.rest p (p ++ inner_at s (reach_of t.rest))
+    bare = inside_pass (nothing (current s.rest)) inner
+
+    listed : (unnamed : Bool) → HasText (opening s.flags t.flags) s t → Passes s.rest t.rest p
+        (p ++ (part (reach_of s.rest) (reach_of t.rest) (opening s.flags t.flags) unnamed ∷ inner_at s (reach_of t.rest)))
+    listed unnamed i =
+        one_with (opening s.flags t.flags) unnamed k.word (nothing (current s.rest)) k.cut (i k.word k.cut) inner
+        (current t.rest) refl
+
+    by_kind : (h : GroupKind) → HasStart s (of_kind h t) → Passes s.rest t.rest p (p ++ opening_of h s t)
+    by_kind flag_group i = listed false i
+    by_kind (capture None) i = listed true i
+    by_kind (capture (Some name)) i = bare
+    by_kind (look l) i = bare
+    by_kind atomic i = bare
+    by_kind define i = bare
+    by_kind repeater i = bare
 
 -- up to the closing parenthesis
 abbrev PassesInside : Text → List Passed → List Passed → Outcome Tree → Type 0
@@ -283,11 +306,11 @@ read_passes : (s : State) (o : Outcome Tree) (p : List Passed) → Reads (IsLeaf
     PassesFrom s.rest p (p ++ parts_of_atom s o) o
 read_passes s (failed e) p h i = tt
 read_passes s (done r t) p h i =
+    let k = h.span.slice in
+    let inner = start_inner s t.rest k in
     cond_both (is_empty r) _ _ (λ l. Passes s.rest t.rest p (p ++ l))
-    (λ e. one_with (flags s.flags t.flags) false h.span.slice.word (nothing (current s.rest)) h.span.slice.cut
-    (i.0 e h.span.slice.word h.span.slice.cut) (subst (λ b. InToken s.rest t.rest (inner_at b s t.rest)) e i.1)
-    (current t.rest) refl)
-    (λ e. inside_pass (nothing (current s.rest)) (subst (λ b. InToken s.rest t.rest (inner_at b s t.rest)) e i.1))
+    (λ e. one_with (flags s.flags t.flags) false k.word (nothing (current s.rest)) k.cut (i e k.word k.cut) inner
+    (current t.rest) refl) (λ e. inside_pass (nothing (current s.rest)) inner)
 
 mutual
   alternation_passes : {d : ℕ} {s : State} {o : Outcome Tree} (a : Alternation d s o) (p : List Passed) →
@@ -336,58 +359,68 @@ mutual
       PassesFrom s.rest p (atom_trivia a p) o
   atom_passes {d} {s} (atom {k} {q} e a) p =
       let read_start = subst (StartReads s) e (start_reads d s) in
-      let lies = subst (ConditionLies false s) e (condition_lies false d s) in
       let has = subst (HasStart s) e (has_start d s) in
+      let there = subst (HasConditionText (condition_text s)) e (condition_there d s) in
       after_keeps (PassesFrom s.rest p (atom_of_trivia a p)) (λ r t f i. i) k s.flags q
-      (of_passes a p read_start lies has)
+      (of_passes a p read_start has there)
 
   of_passes : {k : AtomStart} {d : ℕ} {s : State} {o : Outcome Tree} (a : AtomOf k d s o) (p : List Passed) →
-      StartReads s k → ConditionLies false s k → HasStart s k → PassesFrom s.rest p (atom_of_trivia a p) o
-  of_passes {s} a_nothing p h y z = nothing (current s.rest)
-  of_passes {s} {o} a_read p h y z = read_passes s o p h z
-  of_passes {s} (a_group {t} {h = kind} {q} i) p h y z =
+      StartReads s k → HasStart s k → HasConditionText (condition_text s) k →
+      PassesFrom s.rest p (atom_of_trivia a p) o
+  of_passes {s} a_nothing p h z x = nothing (current s.rest)
+  of_passes {s} {o} a_read p h z x = read_passes s o p h z
+  of_passes {s} (a_group {t} {h = kind} {q} i) p h z x =
       let before = p ++ opening_of kind s t in
       closing_passes s.rest p (inside_trivia i before) kind (reach_of s.rest) q
       (on_inside (inside_trivia i before) (opening_passes kind s t p h.0 z) q (inside_passes i before))
-  of_passes {s} (a_condition {t} {v} {c} {o} i b) p h y z =
-      let k = p ++ inner_at false s t.rest in
+  of_passes {s} (a_condition {t} {v} {c} {o} i b) p h z x =
+      let inner = start_inner s t.rest h.0 in
+      let k = p ++ inner_at s (reach_of t.rest) in
       let condition = past_paren t.rest k (inside_trivia i k) (done c v) (inside_passes i k) in
-      let q = with_dropped (reach_of s.rest) (reach_of t.rest) p ++ inner_at false s t.rest in
+      let q = with_dropped (reach_of s.rest) (reach_of t.rest) p ++ inner_at s (reach_of t.rest) in
       let first =
-      followed (dropped_with (nothing (current s.rest)) h.0 (z.0 h.0.word h.0.cut) z.1) (inside_passes i q) in
+      followed (dropped_with (nothing (current s.rest)) h.0 (z h.0.word h.0.cut) inner) (inside_passes i q) in
       cond_both (leaves_condition b) _ _ (λ m. PassesFrom s.rest p m o) (λ _.
       subst (λ n. PassesFrom s.rest p (filled n (end_of o) (body_trivia b []) (inside_trivia i q)) o)
       (ap (λ n. n + 1) (paren_bytes v.rest))
       (filled_from (body_trivia b []) first (one (code ")") v.rest) o (body_passes b []))) (λ _.
       on_from (body_trivia b (inside_trivia i k))
-      (followed (inside_pass (nothing (current s.rest)) z.1) condition) o (body_passes b (inside_trivia i k)))
-  of_passes (condition_error i) p h y z = tt
-  of_passes {s} {o} (a_body {t} b) p h y z =
-      let (w, u, before, condition, after, starts, ends) = alone_lies y in
-      let k = inner_at false s t.rest in
-      let first =
-      extended (dropped_with {l = k} (nothing (current s.rest)) before ? ?) condition in
+      (followed (inside_pass (nothing (current s.rest)) inner) condition) o (body_passes b (inside_trivia i k)))
+  of_passes (condition_error i) p h z x = tt
+  of_passes {s} {o} (a_body {t} b) p h z (u, there, _, (w, ends)) =
+      let start = (condition_span s t).start in
+      let here : start ≡ reach_of u = ap (λ o. choose o reach_of (reach_of s.rest)) there in
+      let before = condition_slice s u there in
+      let inner : InToken s.rest u (inner_at s start) =
+      subst (λ n. InToken s.rest u (inner_at s n)) (sym here) (start_inner s u before) in
+      let condition : Slice u (code ")" ∷ t.rest) = record { word = w; cut = ends } in
+      let k = p ++ inner_at s start in
+      let all : Passes s.rest t.rest p k =
+      extended (extended (inside_pass (nothing (current s.rest)) inner) condition) (one (code ")") t.rest) in
+      let first : Passes s.rest (code ")" ∷ t.rest) p (with_dropped (reach_of s.rest) start p ++ inner_at s start) =
+      subst (λ n. Passes s.rest (code ")" ∷ t.rest) p (with_dropped (reach_of s.rest) n p ++ inner_at s start)) (sym here)
+      (extended (dropped_with (nothing (current s.rest)) before (before_condition s u there before.word before.cut) inner)
+      condition) in
       cond_both (leaves_condition b) _ _ (λ m. PassesFrom s.rest p m o) (λ _.
       subst (λ n. PassesFrom s.rest p
-      (filled n (end_of o) (body_trivia b []) (with_dropped (reach_of s.rest) (condition_span s t).start p ++ k)) o) (sym ends)
-      (subst (λ n. PassesFrom s.rest p
-      (filled (reach_of u) (end_of o) (body_trivia b []) (with_dropped (reach_of s.rest) n p ++ k)) o) (sym starts)
-      (filled_from (body_trivia b []) first after o (body_passes b []))))
-      (λ _. on_from (body_trivia b (p ++ k)) (inside_pass (nothing (current s.rest)) z) o (body_passes b (p ++ k)))
-  of_passes {s} (two_branches {t} {v} {u} {a} {q} b e m) p h y z =
-      let k = p ++ inner_at false s t.rest in
+      (filled n (end_of o) (body_trivia b []) (with_dropped (reach_of s.rest) start p ++ inner_at s start)) o)
+      (ap (λ n. n + 1) (paren_bytes t.rest))
+      (filled_from (body_trivia b []) first (one (code ")") t.rest) o (body_passes b [])))
+      (λ _. on_from (body_trivia b k) all o (body_passes b k))
+  of_passes {s} (two_branches {t} {v} {u} {a} {q} b e m) p h z x =
+      let k = p ++ inner_at s (reach_of t.rest) in
       let all = branch_trivia m (branch_trivia b k) in
       let first =
-      extended (followed (inside_pass (nothing (current s.rest)) z) (branch_passes b k))
+      extended (followed (inside_pass (nothing (current s.rest)) (start_inner s t.rest h.0)) (branch_passes b k))
       (strip_slice (code "|") v.rest u e) in
       then_from s.rest p all all q _ (on_from all first q (branch_passes m (branch_trivia b k)))
       (λ x w i. past_paren s.rest p all (closed (expression a x) w) (closed_passes (expression a x) w i))
-  of_passes {s} (one_branch {t} {v} {a} b e) p h y z =
-      let k = p ++ inner_at false s t.rest in
+  of_passes {s} (one_branch {t} {v} {a} b e) p h z x =
+      let k = p ++ inner_at s (reach_of t.rest) in
       past_paren s.rest p (branch_trivia b k) (closed (clear_or_stopper a) v)
       (closed_passes (clear_or_stopper a) v
-      (followed (inside_pass (nothing (current s.rest)) z) (branch_passes b k)))
-  of_passes (absent_error b) p h y z = tt
+      (followed (inside_pass (nothing (current s.rest)) (start_inner s t.rest h.0)) (branch_passes b k)))
+  of_passes (absent_error b) p h z x = tt
 
   inside_passes : {d : ℕ} {s : State} {o : Outcome Tree} (a : Inside d s o) (p : List Passed) →
       PassesInside s.rest p (inside_trivia a p) o

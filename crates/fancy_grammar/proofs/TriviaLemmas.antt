@@ -15,7 +15,7 @@ use Rattle.fancy_lex.specs.Comments.{Comment}
 use Rattle.fancy_lex.specs.LayoutSteps.{rest}
 use Rattle.fancy_lex.specs.Text.{Text, bytes, reach_of, position_at}
 use Rattle.fancy_grammar.specs.Slices.{Slice}
-use Rattle.fancy_grammar.specs.Spans.{Span, IsCutOut, alone, end_of}
+use Rattle.fancy_grammar.specs.Spans.{IsCutOut, end_of}
 use Rattle.fancy_grammar.specs.State.{State, skipped, Outcome, done, failed, and_then, mapped}
 use Rattle.fancy_grammar.specs.Tree.{Tree}
 use Rattle.fancy_grammar.specs.Trivia.{Trivium, TriviumKind, comment, line_comment, dropped, Passed, part, kept, IsTextOf}
@@ -23,7 +23,6 @@ use Rattle.fancy_grammar.specs.Trivia.{IsPartOf, AreInOrder, FollowOne, no_more,
 use Rattle.fancy_grammar.specs.Trivia.{located, of_comment, comments_at, with_dropped, filled}
 use Rattle.fancy_grammar.proofs.OutcomeLemmas.{Holds, each_append}
 use Rattle.fancy_grammar.proofs.Slices.{current, on, fits}
-use Rattle.fancy_grammar.proofs.SpansLemmas.{Lies, leaf_at, inside_at, row_at, row_slice}
 use Rattle.fancy_grammar.proofs.Verdict.{cut_at}
 
 -- from the text a up to v, in reaches
@@ -94,6 +93,14 @@ pub dropped_passes : {t a v : Text} {p q : List Passed} → Passes t a p q → (
 dropped_passes {t} {a} {v} {p} h s i =
     cond_both (reach_of a == reach_of v) _ _ (Passes t v p) (λ _. extended h s)
     (λ _. one_more dropped false s.word h s.cut i (current v) refl)
+
+-- an empty text is not
+pub nothing_dropped : {t a v : Text} {p q : List Passed} → Passes t a p q → (s : Slice a v) → s.word ≡ [] →
+    Passes t v p (with_dropped (reach_of a) (reach_of v) q)
+nothing_dropped {t} {a} {v} {p} {q} h s e =
+    let same : reach_of a ≡ reach_of v = ap reach_of (s.cut ∙ ap (λ w. w ++ v) e) in
+    subst (λ b. Passes t v p (if b then q else q ++ part (reach_of a) (reach_of v) dropped false ∷ []))
+    (sym (grind (arith, nat_tests))) (extended h s)
 
 -- the same with comments in the part
 pub dropped_with : {t a v : Text} {p q l : List Passed} → Passes t a p q → (s : Slice a v) → IsDropped s.word v →
@@ -239,13 +246,6 @@ pub filled_from : {A : Type 0} {t a z : Text} {p q : List Passed} (l : List Pass
     (o : Outcome A) → PassesFrom z [] l o → PassesFrom t p (filled (reach_of a) (end_of o) l q) o
 filled_from l h s (done r v) i = filled_passes h (followed (nothing s) i) (current v.rest)
 filled_from l h s (failed e) i = tt
-
--- a node without others in it spans a slice of the text
-pub alone_lies : {named : Bool} {t u : Text} {r : Tree} {y : Span} → Lies named t u r (alone y) →
-    (a : Text) × (b : Text) × Slice t a × Slice a b × Slice b u × (y.start ≡ reach_of a) × (y.end ≡ reach_of b)
-alone_lies (leaf_at {a} {b} s k g) = (a, b, s, k, g, refl, refl)
-alone_lies (inside_at k h) = alone_lies h
-alone_lies {named} (row_at {a} {b} l k s h g) = (a, b, s, row_slice named h, g, refl, refl)
 
 -- ---- layout
 

@@ -77,37 +77,36 @@ comments_at s = map of_comment (comments s.flags.ignore_space s.rest)
 abbrev pub of_inner : Comment → Passed
 of_inner c = part c.start c.end (if c.is_line then inner_line_comment else inner_comment) false
 
--- the comments in the token that begins an atom at s, and that v follows; `has_letters` says whether it has the letters of
--- flags. After a parenthesis there is layout in each token.
-abbrev pub comments_in_start : Bool → State → Text → Text → List Comment
-comments_in_start has_letters s v [] = []
-comments_in_start has_letters s v (c ∷ t) =
-    if c == code "(" then (if has_letters then token_comments t v else comments s.flags.ignore_space t)
-    else if c == code "\\" then escape_comments t v
-    else if c == code "[" then class_comments s.flags t v
+-- the comments in the token at the front of the text that begins an atom and ends at the reach, under these flags
+abbrev pub comments_in_start : Flags → Text → ℕ → List Comment
+comments_in_start f [] end = []
+comments_in_start f (c ∷ t) end =
+    if c == code "(" then token_comments t end
+    else if c == code "\\" then escape_comments t end
+    else if c == code "[" then class_comments f t end
     else []
 
-abbrev pub inner_at : Bool → State → Text → List Passed
-inner_at has_letters s v = map of_inner (comments_in_start has_letters s v s.rest)
+abbrev pub inner_at : State → ℕ → List Passed
+inner_at s end = map of_inner (comments_in_start s.flags s.rest end)
 
 -- those in the counts of a quantifier that are at t, and that v follows
 abbrev pub inner_of_counts : Counts → Text → Text → List Passed
-inner_of_counts c t v = if c.braces then map of_inner (token_comments t v) else []
+inner_of_counts c t v = if c.braces then map of_inner (token_comments t (reach_of v)) else []
 
 -- an atom that is read at once: inline flags, if it is an Empty, since no other one is, and the comments in it
 abbrev pub parts_of_atom : State → Outcome Tree → List Passed
 parts_of_atom s q =
     if_done q (λ r t. if is_empty r
-    then part (reach_of s.rest) (reach_of t.rest) (flags s.flags t.flags) false ∷ inner_at true s t.rest
-    else inner_at false s t.rest) []
+    then part (reach_of s.rest) (reach_of t.rest) (flags s.flags t.flags) false ∷ inner_at s (reach_of t.rest)
+    else inner_at s (reach_of t.rest)) []
 
 -- the opening of a group at s, whose contents begin at t, and the comments in it
 abbrev pub opening_of : GroupKind → State → State → List Passed
 opening_of flag_group s t =
-    part (reach_of s.rest) (reach_of t.rest) (opening s.flags t.flags) false ∷ inner_at true s t.rest
+    part (reach_of s.rest) (reach_of t.rest) (opening s.flags t.flags) false ∷ inner_at s (reach_of t.rest)
 opening_of (capture None) s t =
-    part (reach_of s.rest) (reach_of t.rest) (opening s.flags t.flags) true ∷ inner_at false s t.rest
-opening_of _ s t = inner_at false s t.rest
+    part (reach_of s.rest) (reach_of t.rest) (opening s.flags t.flags) true ∷ inner_at s (reach_of t.rest)
+opening_of _ s t = inner_at s (reach_of t.rest)
 
 -- the closing parenthesis of a group, which ends at the reach
 abbrev pub closing_of : GroupKind → ℕ → List Passed
@@ -206,17 +205,18 @@ abbrev mutual
   atom_of_trivia {s} {o} (a_condition {t} {v} i b) p =
       if leaves_condition b
       then filled (reach_of v.rest + 1) (end_of o) (body_trivia b [])
-      (inside_trivia i (with_dropped (reach_of s.rest) (reach_of t.rest) p ++ inner_at false s t.rest))
-      else body_trivia b (inside_trivia i (p ++ inner_at false s t.rest))
-  atom_of_trivia {s} (condition_error {t} i) p = inside_trivia i (p ++ inner_at false s t.rest)
+      (inside_trivia i (with_dropped (reach_of s.rest) (reach_of t.rest) p ++ inner_at s (reach_of t.rest)))
+      else body_trivia b (inside_trivia i (p ++ inner_at s (reach_of t.rest)))
+  atom_of_trivia {s} (condition_error {t} i) p = inside_trivia i (p ++ inner_at s (reach_of t.rest))
   atom_of_trivia {s} {o} (a_body {t} b) p =
+      let start = (condition_span s t).start in
       if leaves_condition b
       then filled (reach_of t.rest + 1) (end_of o) (body_trivia b [])
-      (with_dropped (reach_of s.rest) (condition_span s t).start p ++ inner_at false s t.rest)
-      else body_trivia b (p ++ inner_at false s t.rest)
-  atom_of_trivia {s} (two_branches {t} b e m) p = branch_trivia m (branch_trivia b (p ++ inner_at false s t.rest))
-  atom_of_trivia {s} (one_branch {t} b e) p = branch_trivia b (p ++ inner_at false s t.rest)
-  atom_of_trivia {s} (absent_error {t} b) p = branch_trivia b (p ++ inner_at false s t.rest)
+      (with_dropped (reach_of s.rest) start p ++ inner_at s start)
+      else body_trivia b (p ++ inner_at s start)
+  atom_of_trivia {s} (two_branches {t} b e m) p = branch_trivia m (branch_trivia b (p ++ inner_at s (reach_of t.rest)))
+  atom_of_trivia {s} (one_branch {t} b e) p = branch_trivia b (p ++ inner_at s (reach_of t.rest))
+  atom_of_trivia {s} (absent_error {t} b) p = branch_trivia b (p ++ inner_at s (reach_of t.rest))
 
   pub inside_trivia : {d : ℕ} {s : State} {o : Outcome Tree} → Inside d s o → List Passed → List Passed
   inside_trivia (inside a) p = alternation_trivia a p
@@ -253,7 +253,7 @@ IsParenthesis f w v = (t : Text) × (w ++ v ≡ code "(" ∷ t) × (layout f.ign
 -- bars, closing parentheses and blanks
 pub data IsDropped (w v : Text) : Type 0 where
   the_counts : (x : Bool) (c : Counts) → counts x (w ++ v) ≡ Some (c, v) → IsDropped w v
-  operators : (o : Text) → w ≡ o → Contains (codes "?" ∷ codes "+" ∷ codes "?+" ∷ []) o → IsDropped w v
+  operators : (w ≡ codes "?") ⊎ (w ≡ codes "+") ⊎ (w ≡ codes "?+") → IsDropped w v
   start_of_conditional : (f : Flags) (t : Text) → w ++ v ≡ code "(" ∷ t →
       layout f.ignore_space t ≡ rest (codes "?(" ++ v) → IsDropped w v
   between_parts : AllByRecursion (λ c. (c ∈ "|) \r\n\t") ≡ true) w → IsDropped w v

@@ -33,7 +33,6 @@ pub mod ClassLaws
 pub mod TokenCommentLemmas
 mod ClassCommentLemmas
 pub mod TokenCommentLaws
-pub mod TokenReaders
 pub mod PositionLaws
 -- ---- quantifiers, and the openings of groups
 pub mod GroupStartLaws

@@ -6,14 +6,14 @@ ghost use Rattle.fancy_lex.specs.EscapeViews.{escape_of, delegate_text};
 ghost use Rattle.fancy_lex.specs.Property.{is_negated_set};
 ghost use Rattle.fancy_lex.specs.Reading.{Reading, Derives, gives};
 ghost use Rattle.fancy_lex.specs.ErrorViews.{LiesWithin};
-ghost use Rattle.fancy_lex.specs.Text.{Text, text_of, BeginsWith, EndsWith};
+ghost use Rattle.fancy_lex.specs.Text.{Text, text_of, BeginsWith, EndsWith, reach_of};
 ghost use Rattle.fancy_lex.specs.TokenComments.{class_comments, escape_comments};
 
 use crate::error::{ParseError, ReadError};
 use crate::escape::{DelegateText, Escaped, escape, is_metacharacter};
 use crate::flags::Flags;
 use crate::property::{is_negated, push_property};
-use crate::text::{AT_END, after, append, byte_len, next, push};
+use crate::text::{AT_END, Reach, after, append, next, push, reach};
 use std::alloc::{AllocError, Global};
 
 /// Whether the character needs a backslash in a class.
@@ -200,20 +200,20 @@ pub fn class(alloc: Global, text: &str, flags: Flags) -> Result<(String, &str), 
 }
 
 /// The next escape in a class that was parsed, after its backslash, and the text after it. `text` is the rest of the class,
-/// which `end` follows.
-pub fn next_escape<'a>(
+/// which ends at the reach.
+pub fn next_escape(
     alloc: Global,
-    text: &'a str,
-    end: &str,
+    text: &str,
+    end: Reach,
     flags: Flags,
-) -> Option<(&'a str, &'a str)>
-    ensures value { MatchOption result (class_comments flags (chars text.now) (chars end.now) ≡ [])
-        (λ p. class_comments flags (chars text.now) (chars end.now) ≡
-        escape_comments (chars p.0.now) (chars p.1.now) ++ class_comments flags (chars p.1.now) (chars end.now)) }
+) -> Option<(&str, &str)>
+    ensures value { MatchOption result (class_comments flags (chars text.now) end ≡ [])
+        (λ p. class_comments flags (chars text.now) end ≡
+        escape_comments (chars p.0.now) (reach_of (chars p.1.now)) ++ class_comments flags (chars p.1.now) end) }
     ensures shorter { IfSome result (λ p. length p.1.now < length text.now) }
 {
     let mut rest = text;
-    while byte_len(end) < byte_len(rest) {
+    while end < reach(rest) {
         let Some((c, tail)) = next(rest) else {
             return None;
         };
@@ -222,7 +222,7 @@ pub fn next_escape<'a>(
                 return None;
             };
             // Each escape of a class ends in it.
-            if byte_len(after) < byte_len(end) {
+            if reach(after) < end {
                 return None;
             }
             return Some((tail, after));

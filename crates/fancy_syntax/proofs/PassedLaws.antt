@@ -270,7 +270,7 @@ mutual
       let n = branches_opened s t l in
       let m = inside_recorded i n in
       let k = (inside_as true i n (branches_begin s t l)).is_kept in
-      let j = inner_at false s t.rest in
+      let j = inner_at s (reach_of t.rest) in
       let r = j ++ inside_trivia i [] in
       let apart : (z : List Passed) → inside_trivia i (z ++ j) ≡ z ++ r =
       λ z. inside_alone i (z ++ j) ∙ append_assoc z j (inside_trivia i []) in
@@ -285,7 +285,7 @@ mutual
   atom_of_passed {s} (condition_error {t} i) l = inside_passed i (branches_opened s t l)
   atom_of_passed {s} {o} (a_body {t} b) l =
       let p = condition_span s t in
-      let k = inner_at false s t.rest in
+      let k = inner_at s p.start in
       body_passed b (body_opened s t l) (reach_of s.rest) p.start l.passed k
       (body_begins t (leaf_recorded p.start p.end (pass k (opened (reach_of s.rest) p.start l)))) refl refl refl refl
   atom_of_passed {s} (two_branches {t} {u} b e m) l =

@@ -869,7 +869,7 @@ module _ (named : Bool) where
     atom_of_as {s} (condition_error i) l h c = tt
     atom_of_as {s} (a_body {t} {c} b) l h z =
         let p = condition_span s t in
-        let k = inner_at false s t.rest in
+        let k = inner_at s p.start in
         let w = opened_within (reach_of s.rest) p.start l in
         body_as_read s b l (body_opened s t l) (alone p) (Node p.start p.end ∷ [])
         (record { around = w.around; start_is = w.start_is; height = w.height }) refl

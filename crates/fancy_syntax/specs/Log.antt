@@ -119,7 +119,7 @@ group_opened h s t l = pass (opening_of h s t) (opened (reach_of s.rest) (reach_
 
 -- any other atom that holds branches
 abbrev pub branches_opened : State → State → Log → Log
-branches_opened s t l = pass (inner_at false s t.rest) (opened (reach_of s.rest) (reach_of t.rest) l)
+branches_opened s t l = pass (inner_at s (reach_of t.rest)) (opened (reach_of s.rest) (reach_of t.rest) l)
 
 -- the open part, a condition, has ended, and after its closing parenthesis the body begins at the reach
 abbrev pub body_begun : ℕ → Log → Log
@@ -132,7 +132,7 @@ abbrev pub body_opened : State → State → Log → Log
 body_opened s t l =
     let p = condition_span s t in
     body_begun (reach_of t.rest)
-    (leaf_recorded p.start p.end (pass (inner_at false s t.rest) (opened (reach_of s.rest) p.start l)))
+    (leaf_recorded p.start p.end (pass (inner_at s p.start) (opened (reach_of s.rest) p.start l)))
 
 -- the open atom becomes the last piece, and the atom around it is the open one
 abbrev pub atom_ended : Log → Log

@@ -16,6 +16,7 @@ use crate::expr::Expr;
 use crate::grammar::recorded::RecordedTrivium;
 use crate::grammar::state::State;
 use fancy_lex::counts::Counts;
+use fancy_lex::text::Reach;
 use std::alloc::{AllocError, Global};
 
 /// What is done with the reaches that the parser passes. If no spans are recorded, nothing is done, and calls are
@@ -34,16 +35,10 @@ pub(crate) trait Spanning: Drop {
         ensures { (l : Log) → records self.old l → OnOk result (records self.new
             (pass (inner_of_counts counts (chars start.now) (chars after.now)) l)) };
 
-    /// The token that begins the atom at `start`, and that `after` follows, is passed. It has the letters of flags, or not.
-    fn pass_start(
-        &mut self,
-        alloc: Global,
-        start: State,
-        after: &str,
-        has_letters: bool,
-    ) -> Result<(), AllocError>
+    /// The token that begins the atom at `start`, and that ends at the reach, is passed.
+    fn pass_start(&mut self, alloc: Global, start: State, end: Reach) -> Result<(), AllocError>
         ensures { (l : Log) → records self.old l → OnOk result (records self.new
-            (pass (inner_at has_letters (state start.entry) (chars after.now)) l)) };
+            (pass (inner_at (state start.entry) end) l)) };
 
     /// A part of the pattern that no node has, or may have, is passed.
     fn pass(&mut self, part: RecordedTrivium) -> Result<(), AllocError>
@@ -135,8 +130,7 @@ impl Spanning for NoSpans {
         &mut self,
         _alloc: Global,
         _start: State,
-        _after: &str,
-        _has_letters: bool,
+        _end: Reach,
     ) -> Result<(), AllocError> {
         Ok(())
     }

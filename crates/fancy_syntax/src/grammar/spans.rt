@@ -5,9 +5,7 @@ ghost use Rattle.fancy_syntax.specs.Log.{layout_passed};
 ghost use Rattle.fancy_syntax.specs.LogViews.{log_of};
 ghost use Rattle.fancy_syntax.specs.Parsed.{state};
 ghost use Rattle.fancy_syntax.specs.TriviaViews.{recorded_part};
-ghost use Rattle.fancy_grammar.specs.State as states;
-ghost use Rattle.fancy_grammar.specs.Trivia.{comments_in_start, dropped, of_comment, of_inner, part};
-ghost use Rattle.fancy_lex.specs.Comments.{comments};
+ghost use Rattle.fancy_grammar.specs.Trivia.{dropped, of_comment, of_inner, part};
 ghost use Rattle.fancy_lex.specs.TokenComments.{class_comments, escape_comments, token_comments};
 ghost use Rattle.fancy_lex.specs.CommentViews.{comment_of};
 
@@ -25,7 +23,7 @@ use fancy_lex::counts::Counts;
 use fancy_lex::escape::after_layout_letter;
 use fancy_lex::flags::Flags;
 use fancy_lex::layout::{LayoutComment, first_comment, first_in_token, has_hash};
-use fancy_lex::text::{next, reach, reach_before};
+use fancy_lex::text::{Reach, next, reach, reach_before};
 use std::alloc::{AllocError, Global};
 
 /// The nodes that have been read, the open atoms, and what was passed that no node has.
@@ -85,11 +83,11 @@ impl Spans {
         Ok(())
     }
 
-    /// Records the comments in the token that `text` begins with, and that `end` follows.
+    /// Records the comments in the token at the front of `text` that ends at the reach.
     #[inline(never)]
-    fn pass_token(&mut self, text: &str, end: &str) -> Result<(), AllocError>
+    fn pass_token(&mut self, text: &str, end: Reach) -> Result<(), AllocError>
         ensures { OnOk result (log_of self.new ≡
-            spec.pass (map of_inner (token_comments (chars text.now) (chars end.now))) (log_of self.old)) }
+            spec.pass (map of_inner (token_comments (chars text.now) end)) (log_of self.old)) }
     {
         let mut rest = text;
         while let Some(comment) = first_in_token(rest, end) {
@@ -99,10 +97,10 @@ impl Spans {
         Ok(())
     }
 
-    /// Records the comments in an escape after its backslash, which `end` follows.
-    fn pass_escape(&mut self, text: &str, end: &str) -> Result<(), AllocError>
+    /// Records the comments in an escape that ends at the reach. `text` is what follows its backslash.
+    fn pass_escape(&mut self, text: &str, end: Reach) -> Result<(), AllocError>
         ensures { OnOk result (log_of self.new ≡
-            spec.pass (map of_inner (escape_comments (chars text.now) (chars end.now))) (log_of self.old)) }
+            spec.pass (map of_inner (escape_comments (chars text.now) end)) (log_of self.old)) }
     {
         match after_layout_letter(text) {
             Some(rest) => self.pass_token(rest, end),
@@ -110,58 +108,24 @@ impl Spans {
         }
     }
 
-    /// Records the comments in a class after its bracket, which `end` follows.
+    /// Records the comments in a class that ends at the reach. `text` is what follows its bracket.
+    #[inline(never)]
     fn pass_class(
         &mut self,
         alloc: Global,
         text: &str,
-        end: &str,
+        end: Reach,
         flags: Flags,
     ) -> Result<(), AllocError>
         ensures { OnOk result (log_of self.new ≡
-            spec.pass (map of_inner (class_comments flags (chars text.now) (chars end.now))) (log_of self.old)) }
+            spec.pass (map of_inner (class_comments flags (chars text.now) end)) (log_of self.old)) }
     {
         let mut rest = text;
         while let Some((inside, after)) = next_escape(alloc, rest, end, flags) {
-            self.pass_escape(inside, after)?;
+            self.pass_escape(inside, reach(after))?;
             rest = after;
         }
         Ok(())
-    }
-
-    /// Records the comments in the layout at the front, as those in a token.
-    fn pass_inner_layout(&mut self, text: &str, ignore_space: bool) -> Result<(), AllocError>
-        ensures { OnOk result (log_of self.new ≡
-            spec.pass (map of_inner (comments ignore_space (chars text.now))) (log_of self.old)) }
-    {
-        let mut rest = text;
-        while let Some(comment) = first_comment(rest, ignore_space) {
-            self.passed.push(inner_trivium(comment))?;
-            rest = comment.rest;
-        }
-        Ok(())
-    }
-
-    /// Records the comments in the token that begins with this character: inline flags, the opening of a flag group, an escape
-    /// or a class. `rest` follows the character, and `after` the token.
-    #[inline(never)]
-    fn pass_in_token(
-        &mut self,
-        alloc: Global,
-        first: char,
-        rest: &str,
-        after: &str,
-        flags: Flags,
-    ) -> Result<(), AllocError>
-        ensures { (s : states.State) → s.flags ≡ flags → OnOk result (log_of self.new ≡
-            spec.pass (map of_inner (comments_in_start true s (chars after.now) (first ∷ chars rest.now))) (log_of self.old)) }
-    {
-        match first {
-            '(' => self.pass_token(rest, after),
-            '\\' => self.pass_escape(rest, after),
-            '[' => self.pass_class(alloc, rest, after, flags),
-            _ => Ok(()),
-        }
     }
 
     /// Inserts a node after that much of what is recorded.
@@ -294,27 +258,21 @@ impl Spanning for Spans {
 
     fn pass_counts(&mut self, counts: Counts, start: &str, after: &str) -> Result<(), AllocError> {
         // Usually there is no `#`, and so no comment.
-        if !counts.braces || !has_hash(start, after) {
+        let end = reach(after);
+        if !counts.braces || !has_hash(start, end) {
             return Ok(());
         }
-        self.pass_token(start, after)
+        self.pass_token(start, end)
     }
 
-    fn pass_start(
-        &mut self,
-        alloc: Global,
-        start: State,
-        after: &str,
-        has_letters: bool,
-    ) -> Result<(), AllocError> {
+    fn pass_start(&mut self, alloc: Global, start: State, end: Reach) -> Result<(), AllocError> {
         let Some((c, rest)) = next(start.rest) else {
             return Ok(());
         };
         match c {
-            '(' if !has_letters => self.pass_inner_layout(rest, start.flags.ignore_space),
-            '(' | '\\' | '[' if has_hash(rest, after) => {
-                self.pass_in_token(alloc, c, rest, after, start.flags)
-            }
+            '(' if has_hash(rest, end) => self.pass_token(rest, end),
+            '\\' => self.pass_escape(rest, end),
+            '[' if has_hash(rest, end) => self.pass_class(alloc, rest, end, start.flags),
             _ => Ok(()),
         }
     }

@@ -115,15 +115,14 @@ fn record_atom<S: Spanning>(
         (atom_read (state start.entry) (states.done (view atom.now) (state end.entry)) l)) }
 {
     spans.record_leaf(reach(start.rest), reach(end.rest))?;
-    let is_flags = is_empty(atom);
-    if is_flags {
+    if is_empty(atom) {
         let kind = TriviumKind::InlineFlags {
             before: start.flags,
             after: end.flags,
         };
         spans.pass(part_between(start, end, kind, false))?;
     }
-    spans.pass_start(alloc, start, end.rest, is_flags)
+    spans.pass_start(alloc, start, reach(end.rest))
 }
 
 /// Records the opening of a group of one alternation, whose contents begin at `inside`. A flag group has no node.
@@ -143,22 +142,18 @@ fn record_opening<S: Spanning>(
         around: start.flags,
         inside: inside.flags,
     };
-    let has_letters = match kind {
-        GroupKind::FlagGroup => {
-            spans.pass(part_between(start, inside, opening, false))?;
-            true
-        }
+    match kind {
+        GroupKind::FlagGroup => spans.pass(part_between(start, inside, opening, false))?,
         GroupKind::Capture(None) | GroupKind::Undecided => {
-            spans.pass(part_between(start, inside, opening, true))?;
-            false
+            spans.pass(part_between(start, inside, opening, true))?
         }
         GroupKind::Capture(Some(_))
         | GroupKind::Look(_)
         | GroupKind::Atomic
         | GroupKind::Define
-        | GroupKind::Repeater => false,
-    };
-    spans.pass_start(alloc, start, inside.rest, has_letters)
+        | GroupKind::Repeater => {}
+    }
+    spans.pass_start(alloc, start, reach(inside.rest))
 }
 
 /// Records the opening of any other atom that holds branches, which begin at `inside`.
@@ -173,7 +168,7 @@ fn record_branches<S: Spanning>(
         (branches_opened (state start.entry) (state inside.entry) l)) }
 {
     spans.open(reach(start.rest), reach(inside.rest))?;
-    spans.pass_start(alloc, start, inside.rest, false)
+    spans.pass_start(alloc, start, reach(inside.rest))
 }
 
 /// Records the opening of a conditional whose condition, no alternation, begins at the reach. Its body begins at `inside`.
@@ -190,7 +185,7 @@ fn record_condition<S: Spanning>(
         (body_opened (state start.entry) (state inside.entry) l)) }
 {
     spans.open(reach(start.rest), condition)?;
-    spans.pass_start(alloc, start, inside.rest, false)?;
+    spans.pass_start(alloc, start, condition)?;
     spans.record_leaf(condition, reach_before(inside.rest))?;
     spans.begin_body(inside.rest);
     Ok(())

@@ -7,7 +7,7 @@ use Rattle.fancy_lex.proofs.class.next_escape.Given as goal
 abbrev pub invariant-loop-rest : goal.invariant-loop-rest
 invariant-loop-rest l = record {
   text : shadow (Utf8 l.rest);
-  same : class_comments l.flags (chars l.text) (chars l.end) ≡ class_comments l.flags (chars l.rest) (chars l.end);
+  same : class_comments l.flags (chars l.text) l.end ≡ class_comments l.flags (chars l.rest) l.end;
   within : length l.rest ≤ length l.text;
 }
 

@@ -7,7 +7,7 @@ use Rattle.fancy_lex.proofs.layout.first_in_token.Given as goal
 abbrev pub invariant-loop-rest : goal.invariant-loop-rest
 invariant-loop-rest l = record {
   text : shadow (Utf8 l.rest);
-  same : token_comments (chars l.text) (chars l.end) ≡ token_comments (chars l.rest) (chars l.end);
+  same : token_comments (chars l.text) l.end ≡ token_comments (chars l.rest) l.end;
   within : length l.rest ≤ length l.text;
 }
 
