@@ -3,7 +3,7 @@
 -- in the order of the pattern. A comment inside a token, such as one between the digits of a quantifier or after the
 -- parenthesis of a group, is of a kind of its own, and after the part that the token is, if it is one.
 use Rattle.std.specs.Prelude.{◌≡◌, ◌≤◌, ◌⊎◌, ℕ, zero, suc, ◌+◌, ◌==◌, nat_lt, Bool, true, false, not, ◌&&◌, List, []}
-use Rattle.std.specs.Prelude.{◌∷◌, ◌++◌, None, Some, map, if◌then◌else◌, codes, Contains, slice_range}
+use Rattle.std.specs.Prelude.{◌∷◌, ◌++◌, None, Some, map, if◌then◌else◌, codes, slice_range}
 use Rattle.std.specs.List.{AllByRecursion}
 use Prim.Native.Char.{code}
 use Rattle.fancy_lex.specs.Comments.{Comment, comments}
@@ -249,11 +249,19 @@ HasLetters f l w v =
 abbrev pub IsParenthesis : Flags → Text → Text → Type 0
 IsParenthesis f w v = (t : Text) × (w ++ v ≡ code "(" ∷ t) × (layout f.ignore_space t ≡ rest v)
 
--- what leaves nothing in the tree, under some flags: counts of a quantifier, operators, the opening of a conditional, or
--- bars, closing parentheses and blanks
+-- the counts of a quantifier, which v follows
+abbrev pub IsCounts : Text → Text → Type 0
+IsCounts w v = (x : Bool) × (c : Counts) × (counts x (w ++ v) ≡ Some (c, v))
+
+-- the operators of a quantifier
+abbrev pub IsOperators : Text → Type 0
+IsOperators w = (w ≡ codes "?") ⊎ (w ≡ codes "+") ⊎ (w ≡ codes "?+")
+
+-- what leaves nothing in the tree: counts or operators of a quantifier, the opening of a conditional, up to its condition, or
+-- the text between parts of a conditional whose branches are both Empty
 pub data IsDropped (w v : Text) : Type 0 where
-  the_counts : (x : Bool) (c : Counts) → counts x (w ++ v) ≡ Some (c, v) → IsDropped w v
-  operators : (w ≡ codes "?") ⊎ (w ≡ codes "+") ⊎ (w ≡ codes "?+") → IsDropped w v
+  of_counts : IsCounts w v → IsDropped w v
+  of_operators : IsOperators w → IsDropped w v
   start_of_conditional : (f : Flags) (t : Text) → w ++ v ≡ code "(" ∷ t →
       layout f.ignore_space t ≡ rest (codes "?(" ++ v) → IsDropped w v
   between_parts : AllByRecursion (λ c. (c ∈ "|) \r\n\t") ≡ true) w → IsDropped w v

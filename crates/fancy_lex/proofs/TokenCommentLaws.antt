@@ -222,41 +222,55 @@ module _ (f : Flags) (end : ℕ) (P : Text → List Comment → Type 0) (none : 
 
 -- ---- what is found
 
-units_on : {t u v : Text} {l m : List Comment} → AreUnits t u l → AreUnits u v m → AreUnits t v (l ++ m)
-units_on {v} {m} (no_more w e) k = subst (λ z. AreUnits z v m) (sym e) (earlier w k)
-units_on (a_comment w u e h j) k = a_comment w u e h (units_on j k)
-units_on (a_line w u e h j) k = a_line w u e h (units_on j k)
+-- comments of a token, whatever is between them
+abbrev pub AreInToken : Text → Text → List Comment → Type 0
+AreInToken = AreUnits (λ w. ⊤)
+
+none_found : {t v : Text} → EndsWith t v → AreInToken t v []
+none_found (w, e) = no_more w tt e
+
+one_earlier : {t v : Text} {l : List Comment} (c : ℕ) → AreInToken t v l → AreInToken (c ∷ t) v l
+one_earlier c k = earlier c (λ w h. tt) k
+
+both_found : {t u v : Text} {l m : List Comment} → AreInToken t u l → AreInToken u v m → AreInToken t v (l ++ m)
+both_found {v} {m} (no_more w p e) k = subst (λ z. AreInToken z v m) (sym e) (all_earlier w)
+  where
+    all_earlier : (w : Text) → AreInToken (w ++ _) v m
+    all_earlier [] = k
+    all_earlier (c ∷ w) = one_earlier c (all_earlier w)
+both_found (a_comment w u p e h j) k = a_comment w u p e h (both_found j k)
+both_found (a_line w u p e h j) k = a_line w u p e h (both_found j k)
 
 -- comments of the text up to v, in its order
-pub token_units : (t v : Text) → EndsWith t v → AreUnits t v (token_comments t (reach_of v))
+pub token_units : (t v : Text) → EndsWith t v → AreInToken t v (token_comments t (reach_of v))
 token_units t v s =
-    by_scan (reach_of v) (λ t l. EndsWith t v → AreUnits t v l) (λ t e. no_more e.0 e.1)
-    (λ c t l i lt k e. earlier (c ∷ []) (k (tail_ends (omega (arith, lt)) e)))
-    (λ u t l i le k e. a_comment [] u refl i (k (later_end e (u, refl) (omega (arith, le)))))
-    (λ u t l i le k e. a_line [] u refl i (k (later_end e (u, refl) (omega (arith, le)))))
+    by_scan (reach_of v) (λ t l. EndsWith t v → AreInToken t v l) (λ t e. none_found e)
+    (λ c t l i lt k e. one_earlier c (k (tail_ends (omega (arith, lt)) e)))
+    (λ u t l i le k e. a_comment [] u tt refl i (k (later_end e (u, refl) (omega (arith, le)))))
+    (λ u t l i le k e. a_line [] u tt refl i (k (later_end e (u, refl) (omega (arith, le)))))
     (length t) t (omega arith) s
 
 -- the same after the first character of the token
 after_first : (c : ℕ) (t v : Text) (l : List Comment) → EndsWith (c ∷ t) v → (reach_of t ≤ reach_of v → l ≡ []) →
-    (EndsWith t v → AreUnits t v l) → AreUnits (c ∷ t) v l
+    (EndsWith t v → AreInToken t v l) → AreInToken (c ∷ t) v l
 after_first c t v l s none h = by_end (nat_le (bytes (c ∷ t)) (bytes v)) refl
   where
-    by_end : (b : Bool) → nat_le (bytes (c ∷ t)) (bytes v) ≡ b → AreUnits (c ∷ t) v l
+    by_end : (b : Bool) → nat_le (bytes (c ∷ t)) (bytes v) ≡ b → AreInToken (c ∷ t) v l
     by_end true i =
         let over : bytes t ≤ bytes v = let lt = shorter c t in grind (arith, nat_tests) in
-        subst (AreUnits (c ∷ t) v) (sym (none (omega (arith, over)))) (no_more s.0 s.1)
-    by_end false i = earlier (c ∷ []) (h (tail_ends (grind (arith, nat_tests)) s))
+        subst (AreInToken (c ∷ t) v) (sym (none (omega (arith, over)))) (none_found s)
+    by_end false i = one_earlier c (h (tail_ends (grind (arith, nat_tests)) s))
 
-pub token_after : (c : ℕ) (t v : Text) → EndsWith (c ∷ t) v → AreUnits (c ∷ t) v (token_comments t (reach_of v))
+pub token_after : (c : ℕ) (t v : Text) → EndsWith (c ∷ t) v → AreInToken (c ∷ t) v (token_comments t (reach_of v))
 token_after c t v s =
     after_first c t v (token_comments t (reach_of v)) s (at_end (reach_of v) t) (token_units t v)
 
-escape_units : (t v : Text) → EndsWith t v → AreUnits t v (escape_comments t (reach_of v))
-escape_units [] v s = no_more s.0 s.1
+escape_units : (t v : Text) → EndsWith t v → AreInToken t v (escape_comments t (reach_of v))
+escape_units [] v s = none_found s
 escape_units (c ∷ t) v s =
-    cond_both (c ∈ "xuUbB") _ _ (AreUnits (c ∷ t) v) (λ _. token_after c t v s) (λ _. no_more s.0 s.1)
+    cond_both (c ∈ "xuUbB") _ _ (AreInToken (c ∷ t) v) (λ _. token_after c t v s) (λ _. none_found s)
 
-pub escape_after : (c : ℕ) (t v : Text) → EndsWith (c ∷ t) v → AreUnits (c ∷ t) v (escape_comments t (reach_of v))
+pub escape_after : (c : ℕ) (t v : Text) → EndsWith (c ∷ t) v → AreInToken (c ∷ t) v (escape_comments t (reach_of v))
 escape_after c t v s = after_first c t v (escape_comments t (reach_of v)) s (none_at_end t) (escape_units t v)
   where
     none_at_end : (t : Text) → reach_of t ≤ reach_of v → escape_comments t (reach_of v) ≡ []
@@ -264,16 +278,16 @@ escape_after c t v s = after_first c t v (escape_comments t (reach_of v)) s (non
     none_at_end (d ∷ t) h =
         cond_both (d ∈ "xuUbB") _ _ (λ l. l ≡ []) (λ _. at_end (reach_of v) t (omega (arith, h, shorter d t))) (λ _. refl)
 
-class_units : (f : Flags) (t v : Text) → EndsWith t v → AreUnits t v (class_comments f t (reach_of v))
+class_units : (f : Flags) (t v : Text) → EndsWith t v → AreInToken t v (class_comments f t (reach_of v))
 class_units f t v s =
-    by_walk f (reach_of v) (λ t l. EndsWith t v → AreUnits t v l) (λ t e. no_more e.0 e.1)
-    (λ c t l lt k e. earlier (c ∷ []) (k (tail_ends (omega (arith, lt)) e)))
-    (λ r u l cut lt le k e. earlier (code "\\" ∷ []) (units_on (escape_units r u cut)
+    by_walk f (reach_of v) (λ t l. EndsWith t v → AreInToken t v l) (λ t e. none_found e)
+    (λ c t l lt k e. one_earlier c (k (tail_ends (omega (arith, lt)) e)))
+    (λ r u l cut lt le k e. one_earlier (code "\\") (both_found (escape_units r u cut)
     (k (later_end (tail_ends (omega (arith, lt)) e) cut (omega (arith, le))))))
     (bytes t) t (omega arith) s
 
 pub class_after : (f : Flags) (c : ℕ) (t v : Text) → EndsWith (c ∷ t) v →
-    AreUnits (c ∷ t) v (class_comments f t (reach_of v))
+    AreInToken (c ∷ t) v (class_comments f t (reach_of v))
 class_after f c t v s =
     after_first c t v (class_comments f t (reach_of v)) s (class.at_end f (reach_of v) t) (class_units f t v)
 

@@ -284,4 +284,4 @@ pub record IsPlainLeaf (s : State) (r : Tree) (t : State) : Type 0 where
   pub no_comments : comments s.flags.ignore_space s.rest ≡ []
   pub leaf : (d : ℕ) → atom_start d s ≡ seen.read (done r t)
   pub solid : is_empty r ≡ false
-  pub no_inner : comments_in_start false s t.rest s.rest ≡ []
+  pub no_inner : comments_in_start s.flags s.rest (reach_of t.rest) ≡ []
