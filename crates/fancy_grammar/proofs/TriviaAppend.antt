@@ -13,7 +13,7 @@ use Rattle.fancy_grammar.specs.Quantified.{quant, suffix, Suffix, is_repeatable,
 use Rattle.fancy_grammar.specs.Spans.{condition_span, counts_ahead, end_of, if_done}
 use Rattle.fancy_grammar.specs.State.{State, at, Outcome, done, failed}
 use Rattle.fancy_grammar.specs.Tree.{Tree}
-use Rattle.fancy_grammar.specs.Trivia.{Passed, part, dropped, comments_at, parts_of_atom, opening_of, closing_of}
+use Rattle.fancy_grammar.specs.Trivia.{Passed, part, dropped, comments_at, flags_of_atom, opening_of, closing_of}
 use Rattle.fancy_grammar.specs.Trivia.{inner_at, inner_of_counts, after_layout}
 use Rattle.fancy_grammar.specs.Trivia.{with_dropped, filled, layout_end, counted_trivia, quant_trivia, adjacent_trivia}
 use Rattle.fancy_grammar.specs.Trivia.{quants_trivia, leaves_condition, alternation_trivia, branches_trivia, branch_trivia}
@@ -50,6 +50,10 @@ filled_after (x ∷ l) start end p q =
         (ap (λ z. z ++ x ∷ []) (dropped_after start x.trivium.span.start p q) ∙ append_assoc p r (x ∷ []))
         ∙ after
 
+-- two more lists
+two_after : (p q k l : List Passed) → ((p ++ q) ++ k) ++ l ≡ p ++ ((q ++ k) ++ l)
+two_after p q k l = ap (λ z. z ++ l) (append_assoc p q k) ∙ append_assoc p (q ++ k) l
+
 -- ---- quantifiers
 
 counted_after : (w : Text) (a : Tree) (s : State) (p q : List Passed) (x : Counts × Text) →
@@ -64,7 +68,7 @@ counted_after w a s p q (c, t) = by_test (is_repeatable s.flags a)
     l = comments_at (at s t)
 
     both_after : (z : List Passed) → ((p ++ z) ++ i) ++ l ≡ p ++ ((z ++ i) ++ l)
-    both_after z = ap (λ y. y ++ l) (append_assoc p z i) ∙ append_assoc p (z ++ i) l
+    both_after z = two_after p z i l
 
     counts_after : (with_dropped (reach_of w) (reach_of t) (p ++ q) ++ i) ++ l
         ≡ p ++ ((with_dropped (reach_of w) (reach_of t) q ++ i) ++ l)
@@ -191,11 +195,13 @@ mutual
   atom_of_after : {k : AtomStart} {d : ℕ} {s : State} {o : Outcome Tree} (a : AtomOf k d s o) (p q : List Passed) →
       atom_of_trivia a (p ++ q) ≡ p ++ atom_of_trivia a q
   atom_of_after a_nothing p q = refl
-  atom_of_after {s} {o} a_read p q = append_assoc p q (parts_of_atom s o)
+  atom_of_after {s} {o} a_read p q = two_after p q (flags_of_atom s o) (inner_at s (end_of o))
   atom_of_after {s} {o} (a_group {t} {h} i) p q =
-      ap (λ z. inside_trivia i z ++ closing_of h (end_of o)) (append_assoc p q (opening_of h s t))
-      ∙ ap (λ z. z ++ closing_of h (end_of o)) (inside_after i p (q ++ opening_of h s t))
-      ∙ append_assoc p (inside_trivia i (q ++ opening_of h s t)) (closing_of h (end_of o))
+      let k = inner_at s (reach_of t.rest) in
+      let r = (q ++ opening_of h s t) ++ k in
+      ap (λ z. inside_trivia i z ++ closing_of h (end_of o)) (two_after p q (opening_of h s t) k)
+      ∙ ap (λ z. z ++ closing_of h (end_of o)) (inside_after i p r)
+      ∙ append_assoc p (inside_trivia i r) (closing_of h (end_of o))
   atom_of_after {s} {o} (a_condition {t} {v} i b) p q =
       let k = inner_at s (reach_of t.rest) in
       let d = with_dropped (reach_of s.rest) (reach_of t.rest) q in

@@ -1,7 +1,7 @@
 -- What the tree of a text does not hold lies in the text, one part after another, with segments between them.
 use Rattle.std.proofs.Common.{◌≡◌, ℕ, zero, suc, ◌+◌, ◌<◌, ◌==◌, nat_lt, Bool, true, false, if◌then◌else◌, List, [], ◌∷◌}
-use Rattle.std.proofs.Common.{◌++◌, Option, Some, None, chars, codes, refl, sym, ap, ◌∙◌, subst, arith, append-nil, ◌&&◌}
-use Rattle.std.proofs.Common.{◌||◌, not, length, ◌⊎◌, inl, inr}
+use Rattle.std.proofs.Common.{◌++◌, Option, Some, None, chars, codes, refl, sym, ap, ◌∙◌, subst, arith, append_assoc, append-nil}
+use Rattle.std.proofs.Common.{◌&&◌, ◌||◌, not, length, ◌⊎◌, inl, inr}
 use Rattle.std.specs.Option.{option_and_then}
 use Rattle.std.specs.List.{AllByRecursion}
 use Rattle.std.specs.Str.{IsUtf8}
@@ -41,7 +41,7 @@ use Rattle.fancy_grammar.specs.State.{State, at, skipped, after_skipped, Outcome
 use Rattle.fancy_grammar.specs.Tree.{Tree, leaf, over, row, empty, concat, conditional, expression}
 use Rattle.fancy_grammar.specs.Trivia.{Trivium, Passed, part, flags, opening, closing, IsTriviaOf, IsPartOf, AreInOrder}
 use Rattle.fancy_grammar.specs.Trivia.{IsCounts, IsOperators, of_counts, of_operators, inner_at, inner_of_counts}
-use Rattle.fancy_grammar.specs.Trivia.{comments_at, parts_of_atom, opening_of, closing_of, quant_trivia, adjacent_trivia}
+use Rattle.fancy_grammar.specs.Trivia.{comments_at, flags_of_atom, opening_of, closing_of, quant_trivia, adjacent_trivia}
 use Rattle.fancy_grammar.specs.Trivia.{quants_trivia, alternation_trivia, branches_trivia, branch_trivia, pieces_trivia}
 use Rattle.fancy_grammar.specs.Trivia.{piece_trivia, atom_trivia, atom_of_trivia, inside_trivia, body_trivia, whole_trivia}
 use Rattle.fancy_grammar.specs.Trivia.{with_dropped, filled, layout_end, counted_trivia, leaves_condition}
@@ -362,29 +362,41 @@ module _ (d : ℕ) (s t : State) (k : Slice s.rest t.rest) (p : List Passed) whe
   in_start : InToken s.rest t.rest (inner_at s (reach_of t.rest))
   in_start = start_inner s t.rest k
 
-  -- the opening of an atom that has a node
-  opened : (b : Bool) → b ≡ true → OpensAt s (atom_start d s) t.rest →
-      Passes b s.rest t.rest p (p ++ inner_at s (reach_of t.rest))
-  opened b i e = token_with k.word i (nothing no_gap) k.cut (an_opening d s e k.cut) in_start no_gap refl
+  l : List Passed
+  l = inner_at s (reach_of t.rest)
 
-  -- a part of the list that may be its opening
-  listed : (b unnamed : Bool) → HasText (opening s.flags t.flags) s t →
-      (unnamed ≡ true → OpensAt s (atom_start d s) t.rest) → Passes b s.rest t.rest p
-      (p ++ (part (reach_of s.rest) (reach_of t.rest) (opening s.flags t.flags) unnamed ∷ inner_at s (reach_of t.rest)))
-  listed b unnamed i e =
-      one_with (opening s.flags t.flags) unnamed k.word (nothing no_gap) k.cut refl (i k.word k.cut)
-      (λ n. an_opening d s (e n) k.cut) in_start no_gap refl
+  -- the opening of an atom that has a node
+  opened : OpensAt s (atom_start d s) t.rest → Passes true s.rest t.rest p (p ++ inner_at s (reach_of t.rest))
+  opened e = token_with k.word refl (nothing no_gap) k.cut (an_opening d s e k.cut) in_start no_gap refl
 
   -- a group whose contents are r
   opening_passes : (h : GroupKind) (r : Tree) → atom_start d s ≡ of_kind h t → HasStart s (of_kind h t) →
-      Passes (is_loud (group_node h (reach_of s.rest) r)) s.rest t.rest p (p ++ opening_of h s t)
-  opening_passes flag_group r e i = listed (is_loud r) false i (λ n. absurd (false≢true n))
-  opening_passes (capture None) r e i = listed true true i (λ n. subst (λ x. OpensAt s x t.rest) (sym e) refl)
-  opening_passes (capture (Some name)) r e i = opened true refl (subst (λ x. OpensAt s x t.rest) (sym e) refl)
-  opening_passes (look l) r e i = opened true refl (subst (λ x. OpensAt s x t.rest) (sym e) refl)
-  opening_passes atomic r e i = opened true refl (subst (λ x. OpensAt s x t.rest) (sym e) refl)
-  opening_passes define r e i = opened true refl (subst (λ x. OpensAt s x t.rest) (sym e) refl)
-  opening_passes repeater r e i = opened true refl (subst (λ x. OpensAt s x t.rest) (sym e) refl)
+      Passes (is_loud (group_node h (reach_of s.rest) r)) s.rest t.rest p
+      ((p ++ opening_of h s t) ++ inner_at s (reach_of t.rest))
+  opening_passes h r e i = by_kind h i
+    where
+      opens : OpensAt s (atom_start d s) t.rest
+      opens = subst (λ x. OpensAt s x t.rest) (sym e) refl
+
+      -- a part of the list
+      listed : (b unnamed : Bool) → HasText (opening s.flags t.flags) s t → Passes b s.rest t.rest p
+          ((p ++ part (reach_of s.rest) (reach_of t.rest) (opening s.flags t.flags) unnamed ∷ []) ++ l)
+      listed b unnamed i =
+          one_with (opening s.flags t.flags) unnamed k.word (nothing no_gap) k.cut refl (i k.word k.cut)
+          (λ n. an_opening d s opens k.cut) in_start no_gap (append_assoc p _ l)
+
+      alone : Passes true s.rest t.rest p ((p ++ []) ++ l)
+      alone = subst (λ z. Passes true s.rest t.rest p (z ++ l)) (sym (append-nil p)) (opened opens)
+
+      by_kind : (h : GroupKind) → HasStart s (of_kind h t) →
+          Passes (is_loud (group_node h (reach_of s.rest) r)) s.rest t.rest p ((p ++ opening_of h s t) ++ l)
+      by_kind flag_group i = listed (is_loud r) false i
+      by_kind (capture None) i = listed true true i
+      by_kind (capture (Some name)) i = alone
+      by_kind (look x) i = alone
+      by_kind atomic i = alone
+      by_kind define i = alone
+      by_kind repeater i = alone
 
 -- up to the closing parenthesis
 abbrev PassesInside : Text → List Passed → List Passed → Outcome Tree → Type 0
@@ -443,7 +455,7 @@ group_allows repeater reach r e = absurd (false≢true (sym e))
 
 -- an atom that is read at once: a leaf, or inline flags
 read_passes : (d : ℕ) (s : State) (o : Outcome Tree) (p : List Passed) → atom_start d s ≡ read o → Reads (IsLeaf s) s o →
-    HasStart s (read o) → PassesFrom is_loud s.rest p (p ++ parts_of_atom s o) o
+    HasStart s (read o) → PassesFrom is_loud s.rest p ((p ++ flags_of_atom s o) ++ inner_at s (end_of o)) o
 read_passes d s (failed e) p y h i = tt
 read_passes d s (done r t) p y h i = by_test (is_empty r) refl
   where
@@ -454,13 +466,13 @@ read_passes d s (done r t) p y h i = by_test (is_empty r) refl
     l = inner_at s (reach_of t.rest)
 
     by_test : (b : Bool) → is_empty r ≡ b → Passes (is_loud r) s.rest t.rest p
-        (p ++ (if b then part (reach_of s.rest) (reach_of t.rest) (flags s.flags t.flags) false ∷ l else l))
+        ((p ++ (if b then part (reach_of s.rest) (reach_of t.rest) (flags s.flags t.flags) false ∷ [] else [])) ++ l)
     by_test true e =
         one_with (flags s.flags t.flags) false k.word (nothing no_gap) k.cut refl (i.0 e k.word k.cut)
-        (λ n. absurd (false≢true n)) (start_inner s t.rest k) no_gap refl
+        (λ n. absurd (false≢true n)) (start_inner s t.rest k) no_gap (append_assoc p _ l)
     by_test false e =
         token_with k.word (i.1 e) (nothing no_gap) k.cut (a_leaf d s t r y e k.cut refl) (start_inner s t.rest k) no_gap
-        refl
+        (ap (λ z. z ++ l) (append-nil p))
 
 -- the body of a conditional: what it leaves is the condition, or a node
 abbrev LeavesBody : Bool → Tree → Outcome Tree → Type 0
@@ -587,13 +599,15 @@ mutual
   of_passes a_nothing p e h z x = nothing no_gap
   of_passes {d} {s} {o} a_read p e h z x = read_passes d s o p e h z
   of_passes {d} {s} (a_group {t} {h = kind} {q} i) p e h z x =
-      let before = p ++ opening_of kind s t in
       by_contents q (inside_passes i before)
     where
-      m : List Passed
-      m = inside_trivia i (p ++ opening_of kind s t)
+      before : List Passed
+      before = (p ++ opening_of kind s t) ++ inner_at s (reach_of t.rest)
 
-      by_contents : (q : Outcome Tree) → PassesInside t.rest (p ++ opening_of kind s t) m q →
+      m : List Passed
+      m = inside_trivia i before
+
+      by_contents : (q : Outcome Tree) → PassesInside t.rest before m q →
           (let o = mapped (group_node kind (reach_of s.rest)) q in
           PassesFrom is_loud s.rest p (m ++ closing_of kind (end_of o)) o)
       by_contents (done r v) g =
@@ -621,7 +635,7 @@ mutual
       -- it is own text of the conditional
       held : Passes true s.rest v.rest p (inside_trivia i k)
       held =
-          extended (followed (opened d s t h.0 p true refl (subst (λ x. OpensAt s x t.rest) (sym e) refl))
+          extended (followed (opened d s t h.0 p (subst (λ x. OpensAt s x t.rest) (sym e) refl))
           (allowed true (to_true (is_loud c)) (inside_passes i k))) (paren_gap true v.rest)
 
       by_test : (x : Bool) → LeavesBody x c o →
@@ -686,7 +700,7 @@ mutual
 
       first : Passes true s.rest u p (branch_trivia b k)
       first =
-          extended (followed (opened d s t h.0 p true refl (subst (λ x. OpensAt s x t.rest) (sym e) refl))
+          extended (followed (opened d s t h.0 p (subst (λ x. OpensAt s x t.rest) (sym e) refl))
           (allowed true (to_true (is_loud a)) (branch_passes b k)))
           (separated true (code "|" ∷ []) (strip_is (code "|") v.rest u f) (a_bar refl))
 
@@ -699,7 +713,7 @@ mutual
   of_passes {d} {s} (one_branch {t} {v} {a} b f) p e h z x =
       let k = p ++ inner_at s (reach_of t.rest) in
       let read =
-      followed (opened d s t h.0 p true refl (subst (λ x. OpensAt s x t.rest) (sym e) refl))
+      followed (opened d s t h.0 p (subst (λ x. OpensAt s x t.rest) (sym e) refl))
       (allowed true (to_true (is_loud a)) (branch_passes b k)) in
       past_paren s.rest p (branch_trivia b k) (closed (clear_or_stopper a) v)
       (closed_passes (clear_or_stopper a) v

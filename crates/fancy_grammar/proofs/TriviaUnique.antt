@@ -15,7 +15,7 @@ use Rattle.fancy_grammar.specs.Join.{is_empty}
 use Rattle.fancy_grammar.specs.Spans.{condition_span, end_of, if_done}
 use Rattle.fancy_grammar.specs.State.{State, Outcome}
 use Rattle.fancy_grammar.specs.Tree.{Tree}
-use Rattle.fancy_grammar.specs.Trivia.{Trivium, Passed, IsTriviaOf, located, kept, comments_at, inner_at, parts_of_atom}
+use Rattle.fancy_grammar.specs.Trivia.{Trivium, Passed, IsTriviaOf, located, kept, comments_at, flags_of_atom, inner_at}
 use Rattle.fancy_grammar.specs.Trivia.{opening_of, closing_of, with_dropped, filled, leaves_condition}
 use Rattle.fancy_grammar.specs.Trivia.{quants_trivia, alternation_trivia, branches_trivia, branch_trivia, pieces_trivia}
 use Rattle.fancy_grammar.specs.Trivia.{piece_trivia, atom_trivia, atom_of_trivia, inside_trivia, body_trivia, whole_trivia}
@@ -94,10 +94,11 @@ mutual
   of_same : {k : AtomStart} {d : ℕ} {s z : State} {o q : Outcome Tree} (a : AtomOf k d s o) (b : AtomOf k d z q)
       (p : List Passed) → s ≡ z → atom_of_trivia a p ≡ atom_of_trivia b p
   of_same a_nothing a_nothing p e = refl
-  of_same {o} a_read a_read p e = λ i. p ++ parts_of_atom (e i) o
+  of_same {o} a_read a_read p e = λ i. (p ++ flags_of_atom (e i) o) ++ inner_at (e i) (end_of o)
   of_same {s} (a_group {t} {h} a) (a_group b) p e =
       let q = of_unique (a_group a) (a_group b) e in
-      let x = inside_same a b (p ++ opening_of h s t) refl ∙ ap (λ w. inside_trivia b (p ++ opening_of h w t)) e in
+      let around : State → List Passed = λ w. (p ++ opening_of h w t) ++ inner_at w (reach_of t.rest) in
+      let x = inside_same a b (around s) refl ∙ ap (λ w. inside_trivia b (around w)) e in
       λ i. x i ++ closing_of h (end_of (q i))
   of_same {s} (a_condition {t} i a) (a_condition j b) p e =
       let h = state_of (inside_unique i j refl) in

@@ -93,20 +93,17 @@ inner_at s end = map of_inner (comments_in_start s.flags s.rest end)
 abbrev pub inner_of_counts : Counts → Text → Text → List Passed
 inner_of_counts c t v = if c.braces then map of_inner (token_comments t (reach_of v)) else []
 
--- an atom that is read at once: inline flags, if it is an Empty, since no other one is, and the comments in it
-abbrev pub parts_of_atom : State → Outcome Tree → List Passed
-parts_of_atom s q =
-    if_done q (λ r t. if is_empty r
-    then part (reach_of s.rest) (reach_of t.rest) (flags s.flags t.flags) false ∷ inner_at s (reach_of t.rest)
-    else inner_at s (reach_of t.rest)) []
+-- inline flags, if an Empty was read, since no other atom that is read at once is one
+abbrev pub flags_of_atom : State → Outcome Tree → List Passed
+flags_of_atom s q =
+    if_done q (λ r t. if is_empty r then part (reach_of s.rest) (reach_of t.rest) (flags s.flags t.flags) false ∷ []
+    else []) []
 
--- the opening of a group at s, whose contents begin at t, and the comments in it
+-- the opening of a group at s, whose contents begin at t
 abbrev pub opening_of : GroupKind → State → State → List Passed
-opening_of flag_group s t =
-    part (reach_of s.rest) (reach_of t.rest) (opening s.flags t.flags) false ∷ inner_at s (reach_of t.rest)
-opening_of (capture None) s t =
-    part (reach_of s.rest) (reach_of t.rest) (opening s.flags t.flags) true ∷ inner_at s (reach_of t.rest)
-opening_of _ s t = inner_at s (reach_of t.rest)
+opening_of flag_group s t = part (reach_of s.rest) (reach_of t.rest) (opening s.flags t.flags) false ∷ []
+opening_of (capture None) s t = part (reach_of s.rest) (reach_of t.rest) (opening s.flags t.flags) true ∷ []
+opening_of _ s t = []
 
 -- the closing parenthesis of a group, which ends at the reach
 abbrev pub closing_of : GroupKind → ℕ → List Passed
@@ -200,8 +197,9 @@ abbrev mutual
   pub atom_of_trivia : {k : AtomStart} {d : ℕ} {s : State} {o : Outcome Tree} → AtomOf k d s o → List Passed →
       List Passed
   atom_of_trivia a_nothing p = p
-  atom_of_trivia {s} {o} a_read p = p ++ parts_of_atom s o
-  atom_of_trivia {s} {o} (a_group {t} {h} i) p = inside_trivia i (p ++ opening_of h s t) ++ closing_of h (end_of o)
+  atom_of_trivia {s} {o} a_read p = (p ++ flags_of_atom s o) ++ inner_at s (end_of o)
+  atom_of_trivia {s} {o} (a_group {t} {h} i) p =
+      inside_trivia i ((p ++ opening_of h s t) ++ inner_at s (reach_of t.rest)) ++ closing_of h (end_of o)
   atom_of_trivia {s} {o} (a_condition {t} {v} i b) p =
       if leaves_condition b
       then filled (reach_of v.rest + 1) (end_of o) (body_trivia b [])

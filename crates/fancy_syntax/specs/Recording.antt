@@ -16,7 +16,7 @@ use Rattle.fancy_grammar.specs.Quantified.{quant, suffix, is_repeatable, is_swap
 use Rattle.fancy_grammar.specs.Spans.{counts_ahead, end_of, if_done, quantifier_end}
 use Rattle.fancy_grammar.specs.State.{State, at, Outcome}
 use Rattle.fancy_grammar.specs.Tree.{Tree, alt, list_of}
-use Rattle.fancy_grammar.specs.Trivia.{parts_of_atom, closing_of, layout_end, after_layout, inner_of_counts}
+use Rattle.fancy_grammar.specs.Trivia.{flags_of_atom, closing_of, layout_end, after_layout, inner_at, inner_of_counts}
 use Rattle.fancy_syntax.specs.Log.{Log, leaf_recorded, left_out, wrapped, branches_opened, body_opened, body_begun, branch_begun}
 use Rattle.fancy_syntax.specs.Log.{branch_ended, choice_ended, body_split, branch_lacked, part_dropped, atom_closed}
 use Rattle.fancy_syntax.specs.Log.{atom_ended, pass, layout_passed, group_opened, text_dropped, conditional_dropped}
@@ -89,9 +89,12 @@ choice_recorded _ end l = l
 abbrev pub added : Tree → Log → Log
 added r l = if is_empty r then left_out l else l
 
--- an atom that is read at once, at s: a leaf, or inline flags
+-- an atom that is read at once, at s: a leaf, or inline flags; without the comments in it, and with them
+abbrev pub token_read : State → Outcome Tree → Log → Log
+token_read s q l = pass (flags_of_atom s q) (leaf_recorded (reach_of s.rest) (end_of q) l)
+
 abbrev pub atom_read : State → Outcome Tree → Log → Log
-atom_read s q l = pass (parts_of_atom s q) (leaf_recorded (reach_of s.rest) (end_of q) l)
+atom_read s q l = pass (inner_at s (end_of q)) (token_read s q l)
 
 -- ---- the productions
 

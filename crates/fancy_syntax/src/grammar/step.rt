@@ -8,10 +8,10 @@ ghost use Rattle.fancy_grammar.specs.Depth.{max_depth};
 ghost use Rattle.fancy_grammar.specs.Items.{items};
 ghost use Rattle.fancy_syntax.specs.Decided.{decided, all_decided};
 ghost use Rattle.fancy_syntax.specs.Found.{FindsMore, openings_found};
-ghost use Rattle.fancy_syntax.specs.Log.{Log, branches_opened, group_opened, body_opened};
+ghost use Rattle.fancy_syntax.specs.Log.{Log, body_opened, branches_opened, group_begun, group_opened};
 ghost use Rattle.fancy_syntax.specs.Machine as machine;
 ghost use Rattle.fancy_syntax.specs.Machine.{OpensPart, Part, IsPart, GivesStep, EndsPiece, part_of, TurnsLast};
-ghost use Rattle.fancy_syntax.specs.Recording.{added, atom_read, quants_recorded};
+ghost use Rattle.fancy_syntax.specs.Recording.{added, atom_read, quants_recorded, token_read};
 ghost use Rattle.fancy_syntax.specs.Parsed.{group_kind, state};
 ghost use Rattle.fancy_grammar.specs.Quantified.{quants};
 ghost use Rattle.fancy_grammar.specs.Spans.{condition_span};
@@ -102,7 +102,7 @@ pub(crate) fn read_step<'a, S: Spanning>(
     }
 }
 
-/// Records an atom that is read at once: a leaf, or inline flags, whose tree is an Empty.
+/// Records an atom that is read at once, with the comments in it.
 #[inline(always)]
 fn record_atom<S: Spanning>(
     alloc: Global,
@@ -114,6 +114,21 @@ fn record_atom<S: Spanning>(
     ensures { (l : Log) → S.records spans.old l → OnOk result (S.records spans.new
         (atom_read (state start.entry) (states.done (view atom.now) (state end.entry)) l)) }
 {
+    record_token(start, atom, end, spans)?;
+    spans.pass_start(alloc, start, reach(end.rest))
+}
+
+/// Records a leaf, or inline flags, whose tree is an Empty.
+#[inline(always)]
+fn record_token<S: Spanning>(
+    start: State,
+    atom: &Expr,
+    end: State,
+    spans: &mut S,
+) -> Result<(), AllocError>
+    ensures { (l : Log) → S.records spans.old l → OnOk result (S.records spans.new
+        (token_read (state start.entry) (states.done (view atom.now) (state end.entry)) l)) }
+{
     spans.record_leaf(reach(start.rest), reach(end.rest))?;
     if is_empty(atom) {
         let kind = TriviumKind::InlineFlags {
@@ -122,10 +137,10 @@ fn record_atom<S: Spanning>(
         };
         spans.pass(part_between(start, end, kind, false))?;
     }
-    spans.pass_start(alloc, start, reach(end.rest))
+    Ok(())
 }
 
-/// Records the opening of a group of one alternation, whose contents begin at `inside`. A flag group has no node.
+/// Records the opening of a group of one alternation, whose contents begin at `inside`, with the comments in it.
 #[inline(always)]
 fn record_opening<S: Spanning>(
     alloc: Global,
@@ -137,23 +152,37 @@ fn record_opening<S: Spanning>(
     ensures { (l : Log) → S.records spans.old l → OnOk result (S.records spans.new
         (group_opened (group_kind kind.entry) (state start.entry) (state inside.entry) l)) }
 {
+    begin_group(kind, start, inside, spans)?;
+    spans.pass_start(alloc, start, reach(inside.rest))
+}
+
+/// Records the opening of a group of one alternation. A flag group has no node.
+#[inline(always)]
+fn begin_group<S: Spanning>(
+    kind: GroupKind,
+    start: State,
+    inside: State,
+    spans: &mut S,
+) -> Result<(), AllocError>
+    ensures { (l : Log) → S.records spans.old l → OnOk result (S.records spans.new
+        (group_begun (group_kind kind.entry) (state start.entry) (state inside.entry) l)) }
+{
     spans.open(reach(start.rest), reach(inside.rest))?;
     let opening = TriviumKind::Opening {
         around: start.flags,
         inside: inside.flags,
     };
     match kind {
-        GroupKind::FlagGroup => spans.pass(part_between(start, inside, opening, false))?,
+        GroupKind::FlagGroup => spans.pass(part_between(start, inside, opening, false)),
         GroupKind::Capture(None) | GroupKind::Undecided => {
-            spans.pass(part_between(start, inside, opening, true))?
+            spans.pass(part_between(start, inside, opening, true))
         }
         GroupKind::Capture(Some(_))
         | GroupKind::Look(_)
         | GroupKind::Atomic
         | GroupKind::Define
-        | GroupKind::Repeater => {}
+        | GroupKind::Repeater => Ok(()),
     }
-    spans.pass_start(alloc, start, reach(inside.rest))
 }
 
 /// Records the opening of any other atom that holds branches, which begin at `inside`.
