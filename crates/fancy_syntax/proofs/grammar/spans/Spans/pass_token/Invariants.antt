@@ -10,8 +10,8 @@ use Rattle.fancy_syntax.proofs.grammar.spans.Spans.pass_token.Given as goal
 abbrev pub invariant-loop-comment : goal.invariant-loop-comment
 invariant-loop-comment l = record {
   text : shadow (Utf8 l.rest);
-  passed : pass (map of_inner (token_comments (chars l.text) (chars l.end))) (log_of l.fn.self)
-      ≡ pass (map of_inner (token_comments (chars l.rest) (chars l.end))) (log_of l.self);
+  passed : pass (map of_inner (token_comments (chars l.text) l.end)) (log_of l.fn.self)
+      ≡ pass (map of_inner (token_comments (chars l.rest) l.end)) (log_of l.self);
   within : length l.rest ≤ length l.text;
 }
 
