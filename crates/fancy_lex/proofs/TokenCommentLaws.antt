@@ -2,7 +2,7 @@
 -- text, one after another, and without a `#` there are none.
 use Rattle.std.proofs.Common.{◌≡◌, ◌≢◌, ℕ, zero, suc, ◌+◌, ◌-◌, ◌*◌, ◌≤◌, ◌<◌, Bool, true, false, List, [], ◌∷◌, ◌++◌, Option}
 use Rattle.std.proofs.Common.{Some, None, ap, sym, ◌∙◌, refl, subst, arith, inl, inr, append-nil, append_assoc, nat_le, nat_lt, ◌⊎◌}
-use Rattle.std.proofs.Common.{length, length-append, chars, take, ◌==◌, ◌||◌, if◌then◌else◌}
+use Rattle.std.proofs.Common.{length, length-append, chars, codes, take, ◌==◌, ◌||◌, if◌then◌else◌}
 use Rattle.std.specs.Prelude.{⊤, IfSome}
 use Rattle.std.specs.List.{list_any}
 use Rattle.std.specs.Option.{option_and_then}
@@ -47,13 +47,16 @@ no_bytes : (t : Text) → bytes t ≤ 0 → t ≡ []
 no_bytes [] h = refl
 no_bytes (c ∷ t) h = absurd (omega (arith, h, shorter c t))
 
+tails : {x y : ℕ} {a b : Text} → x ∷ a ≡ y ∷ b → a ≡ b
+tails e = cc
+
 -- the longer of two suffixes ends with the shorter
 longer_ends : (a b : Text) (v u : Text) → a ++ v ≡ b ++ u → bytes v ≤ bytes u → EndsWith u v
 longer_ends [] b v u e h =
     let none : b ≡ [] = no_bytes b (omega (arith, h, ap bytes e, bytes-append b u)) in
     ([], sym (e ∙ ap (λ z. z ++ u) none))
 longer_ends (x ∷ a) [] v u e h = (x ∷ a, sym e)
-longer_ends (x ∷ a) (y ∷ b) v u e h = longer_ends a b v u cc h
+longer_ends (x ∷ a) (y ∷ b) v u e h = longer_ends a b v u (tails e) h
 
 later_end : {t u v : Text} → EndsWith t v → EndsWith t u → bytes v ≤ bytes u → EndsWith u v
 later_end {u} {v} (a, e) (b, f) h = longer_ends a b v u (sym e ∙ f) h
@@ -68,9 +71,9 @@ same_end {u} {v} s r h = by_word (later_end s r (omega (arith, h)))
         sym (e ∙ ap (λ z. z ++ v) none)
 
 -- what a longer text ends with, its rest ends with
-tail_ends : {c : ℕ} {t v : Text} → bytes v < bytes (c ∷ t) → EndsWith (c ∷ t) v → EndsWith t v
-tail_ends h ([], e) = absurd (omega (arith, h, ap bytes e))
-tail_ends h (x ∷ w, e) = (w, cc)
+tail_ends : (c : ℕ) (t v : Text) → bytes v < bytes (c ∷ t) → EndsWith (c ∷ t) v → EndsWith t v
+tail_ends c t v h ([], e) = absurd (omega (arith, h, ap bytes e))
+tail_ends c t v h (x ∷ w, e) = (w, tails e)
 
 -- ---- the scan of a token
 
@@ -119,7 +122,7 @@ module _ (end : ℕ) (P : Text → List Comment → Type 0) (none : (t : Text) �
       -- what follows a part of the text
       fewer : (x : ℕ) (w m : Text) → t ≡ (x ∷ w) ++ m → length m ≤ k
       fewer x w m e =
-          let same : r ≡ w ++ m = cc in omega (arith, h, ap length same, length-append w m)
+          let same : r ≡ w ++ m = tails e in omega (arith, h, ap length same, length-append w m)
 
       opened : (i : Text) → after_comment_start t ≡ Some i → begins_comment end t ≡ true → end < reach_of t →
           P t (token_comments t end)
@@ -133,7 +136,7 @@ module _ (end : ℕ) (P : Text → List Comment → Type 0) (none : (t : Text) �
             ∙ comment_closed end (reach_of t) _ (code ")") m refl refl))
             (if_it_ends t (closed_before (reach_of t) m) (token_comments m end)
             (λ le. subst (λ z. P z (closed_before (reach_of z) m ∷ token_comments m end)) (sym whole)
-            (block u m _ (j, q, refl) (omega (arith, le)) (by_scan k m (fewer _ _ m whole)))))
+            (block u m _ (j, q, refl) le (by_scan k m (fewer (code "(") (codes "?#" ++ (j ++ code ")" ∷ [])) m whole)))))
           | inr (p, q) ↦ subst (P t) (sym (never_closed end (reach_of t) p i q)) (none t)
         ])
 
@@ -148,7 +151,7 @@ module _ (end : ℕ) (P : Text → List Comment → Type 0) (none : (t : Text) �
             ∙ line_closed end (reach_of t) _ (code "\n") m refl refl))
             (if_it_ends t (line_before (reach_of t) m) (token_comments m end)
             (λ le. subst (λ z. P z (line_before (reach_of z) m ∷ token_comments m end)) (sym whole)
-            (lined u m _ (j, q, inl refl) (omega (arith, le)) (by_scan k m (fewer _ _ m whole)))))
+            (lined u m _ (j, q, inl refl) le (by_scan k m (fewer (code "#") (j ++ code "\n" ∷ []) m whole)))))
           | inr q ↦
             let u = code "#" ∷ r in
             let whole : t ≡ u ++ [] = ap (λ d. d ∷ r) i ∙ sym (append-nil u) in
@@ -157,7 +160,7 @@ module _ (end : ℕ) (P : Text → List Comment → Type 0) (none : (t : Text) �
             ∙ past_line end q (reach_of t) [] ∙ line_ends end (reach_of t) [] refl))
             (if_it_ends t (line_before (reach_of t) []) []
             (λ le. subst (λ z. P z (line_before (reach_of z) [] ∷ [])) (sym whole)
-            (lined u [] _ (r, q, inr (refl, refl)) (omega (arith, le)) (none []))))
+            (lined u [] _ (r, q, inr (refl, refl)) le (none []))))
         ])
 
       by_start : (b : Bool) → begins_comment end t ≡ b → end < reach_of t → P t (token_comments t end)
@@ -233,9 +236,9 @@ one_earlier : {t v : Text} {l : List Comment} (c : ℕ) → AreInToken t v l →
 one_earlier c k = earlier c (λ w h. tt) k
 
 both_found : {t u v : Text} {l m : List Comment} → AreInToken t u l → AreInToken u v m → AreInToken t v (l ++ m)
-both_found {v} {m} (no_more w p e) k = subst (λ z. AreInToken z v m) (sym e) (all_earlier w)
+both_found {u} {v} {m} (no_more w p e) k = subst (λ z. AreInToken z v m) (sym e) (all_earlier w)
   where
-    all_earlier : (w : Text) → AreInToken (w ++ _) v m
+    all_earlier : (w : Text) → AreInToken (w ++ u) v m
     all_earlier [] = k
     all_earlier (c ∷ w) = one_earlier c (all_earlier w)
 both_found (a_comment w u p e h j) k = a_comment w u p e h (both_found j k)
@@ -245,7 +248,7 @@ both_found (a_line w u p e h j) k = a_line w u p e h (both_found j k)
 pub token_units : (t v : Text) → EndsWith t v → AreInToken t v (token_comments t (reach_of v))
 token_units t v s =
     by_scan (reach_of v) (λ t l. EndsWith t v → AreInToken t v l) (λ t e. none_found e)
-    (λ c t l i lt k e. one_earlier c (k (tail_ends (omega (arith, lt)) e)))
+    (λ c t l i lt k e. one_earlier c (k (tail_ends c t v (omega (arith, lt)) e)))
     (λ u t l i le k e. a_comment [] u tt refl i (k (later_end e (u, refl) (omega (arith, le)))))
     (λ u t l i le k e. a_line [] u tt refl i (k (later_end e (u, refl) (omega (arith, le)))))
     (length t) t (omega arith) s
@@ -259,7 +262,7 @@ after_first c t v l s none h = by_end (nat_le (bytes (c ∷ t)) (bytes v)) refl
     by_end true i =
         let over : bytes t ≤ bytes v = let lt = shorter c t in grind (arith, nat_tests) in
         subst (AreInToken (c ∷ t) v) (sym (none (omega (arith, over)))) (none_found s)
-    by_end false i = one_earlier c (h (tail_ends (grind (arith, nat_tests)) s))
+    by_end false i = one_earlier c (h (tail_ends c t v (grind (arith, nat_tests)) s))
 
 pub token_after : (c : ℕ) (t v : Text) → EndsWith (c ∷ t) v → AreInToken (c ∷ t) v (token_comments t (reach_of v))
 token_after c t v s =
@@ -281,9 +284,9 @@ escape_after c t v s = after_first c t v (escape_comments t (reach_of v)) s (non
 class_units : (f : Flags) (t v : Text) → EndsWith t v → AreInToken t v (class_comments f t (reach_of v))
 class_units f t v s =
     by_walk f (reach_of v) (λ t l. EndsWith t v → AreInToken t v l) (λ t e. none_found e)
-    (λ c t l lt k e. one_earlier c (k (tail_ends (omega (arith, lt)) e)))
+    (λ c t l lt k e. one_earlier c (k (tail_ends c t v (omega (arith, lt)) e)))
     (λ r u l cut lt le k e. one_earlier (code "\\") (both_found (escape_units r u cut)
-    (k (later_end (tail_ends (omega (arith, lt)) e) cut (omega (arith, le))))))
+    (k (later_end (tail_ends (code "\\") r v (omega (arith, lt)) e) cut (omega (arith, le))))))
     (bytes t) t (omega arith) s
 
 pub class_after : (f : Flags) (c : ℕ) (t v : Text) → EndsWith (c ∷ t) v →
@@ -385,12 +388,21 @@ none_in_digits k a v t u e =
 
 -- ---- the bytes of a text
 
+others_false : (a b : Bool) → (a || b) ≡ false → b ≡ false
+others_false true b e = absurd (false≢true (sym e))
+others_false false b e = e
+
 -- the first bytes that are not among those of a front
 none_later : (p : ℕ → Bool) (n : ℕ) (xs ys : List ℕ) → list_any p (take n (xs ++ ys)) ≡ false →
     list_any p (take (n - length xs) ys) ≡ false
-none_later p n [] ys e = e
-none_later p zero (x ∷ xs) ys e = refl
-none_later p (suc n) (x ∷ xs) ys e = none_later p n xs ys (grind e)
+none_later p n [] ys e =
+    let same : n - length {A = ℕ} [] ≡ n = omega arith in subst (λ k. list_any p (take k ys) ≡ false) (sym same) e
+none_later p zero (x ∷ xs) ys e =
+    let none : 0 - length (x ∷ xs) ≡ 0 = omega arith in subst (λ k. list_any p (take k ys) ≡ false) (sym none) refl
+none_later p (suc n) (x ∷ xs) ys e =
+    let same : suc n - length (x ∷ xs) ≡ n - length xs = omega arith in
+    subst (λ k. list_any p (take k ys) ≡ false) (sym same)
+    (none_later p n xs ys (others_false (p x) (list_any p (take n (xs ++ ys))) e))
 
 -- if no byte before those of the end is a `#`, no character is
 bytes_hashless : (t : Text) (after : ℕ) → list_any (λ y. y == code "#") (take (bytes t - after) (encodes t)) ≡ false →
