@@ -131,7 +131,7 @@ fn quantify_once<S: Spanning>(
     spans.pass_layout(*current, rest)?;
     current.rest = rest;
     let start = rest;
-    let Some((counts, rest)) = counts(start, current.flags.ignore_space) else {
+    let Some((counts, rest)) = counts(current.rest, current.flags.ignore_space) else {
         return Ok(());
     };
     current.rest = rest;

@@ -431,15 +431,12 @@ fn trivium_of_comment(comment: LayoutComment<'_>) -> RecordedTrivium
 fn inner_trivium(comment: LayoutComment<'_>) -> RecordedTrivium
     ensures { recorded_part result ≡ of_inner (comment_of comment.entry) }
 {
-    let kind = if comment.is_line {
-        TriviumKind::InnerLineComment
-    } else {
-        TriviumKind::InnerComment
-    };
     RecordedTrivium {
-        start: reach(comment.start),
-        end: reach(comment.rest),
-        kind,
-        unnamed: false,
+        kind: if comment.is_line {
+            TriviumKind::InnerLineComment
+        } else {
+            TriviumKind::InnerComment
+        },
+        ..trivium_of_comment(comment)
     }
 }
