@@ -24,7 +24,8 @@ fn inside(comment: Trivium) -> Option<Span>
     ensures { IfSome result (λ span. span_of span ≡ spec.inside (trivium_of comment).kind (trivium_of comment).span) }
 {
     let Span { start, end } = comment.span;
-    if comment.kind.is_line_comment() {
+    let is_line = comment.kind.is_line_comment();
+    if is_line {
         return Some(Span {
             start: start.checked_add(1)?,
             end,
