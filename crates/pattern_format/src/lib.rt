@@ -2,6 +2,7 @@
 #![tactic(auto)]
 
 mod all_comments;
+mod bars;
 mod blanks;
 mod columns;
 mod comments;
@@ -20,6 +21,7 @@ mod removed;
 mod sheet;
 mod spelling;
 pub mod style;
+mod tab_stops;
 mod token;
 mod verbose;
 mod written;
