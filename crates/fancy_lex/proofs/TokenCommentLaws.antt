@@ -111,74 +111,78 @@ module _ (end : ℕ) (P : Text → List Comment → Type 0) (none : (t : Text) �
   if_it_ends t x l h =
       cond_both (nat_le end x.end) _ _ (P t) (λ e. h (grind (arith, nat_tests))) (λ _. none t)
 
+  -- at the first character, if P holds of each shorter text
+  module _ (c : ℕ) (r : Text) (below : (m : Text) → length m ≤ length r → P m (token_comments m end)) where
+    -- what follows a part of the text
+    fewer : (x : ℕ) (w m : Text) → c ∷ r ≡ (x ∷ w) ++ m → length m ≤ length r
+    fewer x w m e =
+        let same : r ≡ w ++ m = tails e in omega (arith, ap length same, length-append w m)
+
+    opened : (i : Text) → after_comment_start (c ∷ r) ≡ Some i → begins_comment end (c ∷ r) ≡ true →
+        end < reach_of (c ∷ r) → P (c ∷ r) (token_comments (c ∷ r) end)
+    opened i o b lt = subst (P (c ∷ r)) (sym (opens end (c ∷ r) i lt b o)) (elim (split_comment i) [
+        | inl (j, m, q, f) ↦
+          let u = comment_start ++ (j ++ code ")" ∷ []) in
+          let whole : c ∷ r ≡ u ++ m =
+              opened_is (c ∷ r) i o ∙ ap (λ z. comment_start ++ z) (f ∙ sym (snoc j m (code ")"))) in
+          subst (P (c ∷ r))
+          (sym (ap (token_comments_from end comment (reach_of (c ∷ r))) f
+          ∙ past_inside end q (reach_of (c ∷ r)) (code ")" ∷ m)
+          ∙ comment_closed end (reach_of (c ∷ r)) _ (code ")") m refl refl))
+          (if_it_ends (c ∷ r) (closed_before (reach_of (c ∷ r)) m) (token_comments m end)
+          (λ le. subst (λ z. P z (closed_before (reach_of z) m ∷ token_comments m end)) (sym whole)
+          (block u m _ (j, q, refl) le (below m (fewer (code "(") (codes "?#" ++ (j ++ code ")" ∷ [])) m whole)))))
+        | inr (p, q) ↦ subst (P (c ∷ r)) (sym (never_closed end (reach_of (c ∷ r)) p i q)) (none (c ∷ r))
+      ])
+
+    at_hash : c ≡ code "#" → begins_comment end (c ∷ r) ≡ false → end < reach_of (c ∷ r) →
+        P (c ∷ r) (token_comments (c ∷ r) end)
+    at_hash i b lt = subst (P (c ∷ r)) (sym (opens_line end (c ∷ r) c r refl lt b i)) (elim (split_line r) [
+        | inl (j, m, q, f) ↦
+          let u = code "#" ∷ (j ++ code "\n" ∷ []) in
+          let whole : c ∷ r ≡ u ++ m =
+              ap (λ d. d ∷ r) i ∙ ap (λ z. code "#" ∷ z) (f ∙ sym (snoc j m (code "\n"))) in
+          subst (P (c ∷ r))
+          (sym (ap (token_comments_from end line (reach_of (c ∷ r))) f
+          ∙ past_line end q (reach_of (c ∷ r)) (code "\n" ∷ m)
+          ∙ line_closed end (reach_of (c ∷ r)) _ (code "\n") m refl refl))
+          (if_it_ends (c ∷ r) (line_before (reach_of (c ∷ r)) m) (token_comments m end)
+          (λ le. subst (λ z. P z (line_before (reach_of z) m ∷ token_comments m end)) (sym whole)
+          (lined u m _ (j, q, inl refl) le (below m (fewer (code "#") (j ++ code "\n" ∷ []) m whole)))))
+        | inr q ↦
+          let u = code "#" ∷ r in
+          let whole : c ∷ r ≡ u ++ [] = ap (λ d. d ∷ r) i ∙ sym (append-nil u) in
+          subst (P (c ∷ r))
+          (sym (ap (token_comments_from end line (reach_of (c ∷ r))) (sym (append-nil r))
+          ∙ past_line end q (reach_of (c ∷ r)) [] ∙ line_ends end (reach_of (c ∷ r)) [] refl))
+          (if_it_ends (c ∷ r) (line_before (reach_of (c ∷ r)) []) []
+          (λ le. subst (λ z. P z (line_before (reach_of z) [] ∷ [])) (sym whole)
+          (lined u [] _ (r, q, inr (refl, refl)) le (none []))))
+      ])
+
+    by_start : (b : Bool) → begins_comment end (c ∷ r) ≡ b → end < reach_of (c ∷ r) →
+        P (c ∷ r) (token_comments (c ∷ r) end)
+    by_start true b lt = by_open (after_comment_start (c ∷ r)) refl
+      where
+        by_open : (o : Option Text) → after_comment_start (c ∷ r) ≡ o → P (c ∷ r) (token_comments (c ∷ r) end)
+        by_open (Some i) o = opened i o b lt
+        by_open None o =
+            absurd (false≢true (sym (ap (λ o. choose o (λ i. nat_le end (reach_of i)) false) o) ∙ b))
+    by_start false b lt = elim (cases_eq c (code "#")) [
+        | inl i ↦ at_hash i b lt
+        | inr i ↦ subst (P (c ∷ r)) (sym (after_other end (c ∷ r) c r refl lt b i))
+          (other c r _ i lt (below r (omega arith)))
+      ]
+
+    first_step : (b : Bool) → nat_le (reach_of (c ∷ r)) end ≡ b → P (c ∷ r) (token_comments (c ∷ r) end)
+    first_step true i = subst (P (c ∷ r)) (sym (at_end end (c ∷ r) (grind (arith, nat_tests)))) (none (c ∷ r))
+    first_step false i = by_start (begins_comment end (c ∷ r)) refl (grind (arith, nat_tests))
+
   by_scan : (k : ℕ) (t : Text) → length t ≤ k → P t (token_comments t end)
   by_scan k [] h = subst (P []) (sym (at_text_end end [] refl)) (none [])
   by_scan zero (c ∷ r) h = absurd (omega (arith, h))
-  by_scan (suc k) (c ∷ r) h = by_end (nat_le (reach_of t) end) refl
-    where
-      t : Text
-      t = c ∷ r
-
-      -- what follows a part of the text
-      fewer : (x : ℕ) (w m : Text) → t ≡ (x ∷ w) ++ m → length m ≤ k
-      fewer x w m e =
-          let same : r ≡ w ++ m = tails e in omega (arith, h, ap length same, length-append w m)
-
-      opened : (i : Text) → after_comment_start t ≡ Some i → begins_comment end t ≡ true → end < reach_of t →
-          P t (token_comments t end)
-      opened i o b lt = subst (P t) (sym (opens end t i lt b o)) (elim (split_comment i) [
-          | inl (j, m, q, f) ↦
-            let u = comment_start ++ (j ++ code ")" ∷ []) in
-            let whole : t ≡ u ++ m = opened_is t i o ∙ ap (λ z. comment_start ++ z) (f ∙ sym (snoc j m (code ")"))) in
-            subst (P t)
-            (sym (ap (token_comments_from end comment (reach_of t)) f
-            ∙ past_inside end q (reach_of t) (code ")" ∷ m)
-            ∙ comment_closed end (reach_of t) _ (code ")") m refl refl))
-            (if_it_ends t (closed_before (reach_of t) m) (token_comments m end)
-            (λ le. subst (λ z. P z (closed_before (reach_of z) m ∷ token_comments m end)) (sym whole)
-            (block u m _ (j, q, refl) le (by_scan k m (fewer (code "(") (codes "?#" ++ (j ++ code ")" ∷ [])) m whole)))))
-          | inr (p, q) ↦ subst (P t) (sym (never_closed end (reach_of t) p i q)) (none t)
-        ])
-
-      at_hash : c ≡ code "#" → begins_comment end t ≡ false → end < reach_of t → P t (token_comments t end)
-      at_hash i b lt = subst (P t) (sym (opens_line end t c r refl lt b i)) (elim (split_line r) [
-          | inl (j, m, q, f) ↦
-            let u = code "#" ∷ (j ++ code "\n" ∷ []) in
-            let whole : t ≡ u ++ m = ap (λ d. d ∷ r) i ∙ ap (λ z. code "#" ∷ z) (f ∙ sym (snoc j m (code "\n"))) in
-            subst (P t)
-            (sym (ap (token_comments_from end line (reach_of t)) f
-            ∙ past_line end q (reach_of t) (code "\n" ∷ m)
-            ∙ line_closed end (reach_of t) _ (code "\n") m refl refl))
-            (if_it_ends t (line_before (reach_of t) m) (token_comments m end)
-            (λ le. subst (λ z. P z (line_before (reach_of z) m ∷ token_comments m end)) (sym whole)
-            (lined u m _ (j, q, inl refl) le (by_scan k m (fewer (code "#") (j ++ code "\n" ∷ []) m whole)))))
-          | inr q ↦
-            let u = code "#" ∷ r in
-            let whole : t ≡ u ++ [] = ap (λ d. d ∷ r) i ∙ sym (append-nil u) in
-            subst (P t)
-            (sym (ap (token_comments_from end line (reach_of t)) (sym (append-nil r))
-            ∙ past_line end q (reach_of t) [] ∙ line_ends end (reach_of t) [] refl))
-            (if_it_ends t (line_before (reach_of t) []) []
-            (λ le. subst (λ z. P z (line_before (reach_of z) [] ∷ [])) (sym whole)
-            (lined u [] _ (r, q, inr (refl, refl)) le (none []))))
-        ])
-
-      by_start : (b : Bool) → begins_comment end t ≡ b → end < reach_of t → P t (token_comments t end)
-      by_start true b lt = by_open (after_comment_start t) refl
-        where
-          by_open : (o : Option Text) → after_comment_start t ≡ o → P t (token_comments t end)
-          by_open (Some i) o = opened i o b lt
-          by_open None o =
-              absurd (false≢true (sym (ap (λ o. choose o (λ i. nat_le end (reach_of i)) false) o) ∙ b))
-      by_start false b lt = elim (cases_eq c (code "#")) [
-          | inl i ↦ at_hash i b lt
-          | inr i ↦ subst (P t) (sym (after_other end t c r refl lt b i))
-            (other c r _ i lt (by_scan k r (omega (arith, h))))
-        ]
-
-      by_end : (b : Bool) → nat_le (reach_of t) end ≡ b → P t (token_comments t end)
-      by_end true i = subst (P t) (sym (at_end end t (grind (arith, nat_tests)))) (none t)
-      by_end false i = by_start (begins_comment end t) refl (grind (arith, nat_tests))
+  by_scan (suc k) (c ∷ r) h =
+      first_step c r (λ m l. by_scan k m (omega (arith, h, l))) (nat_le (reach_of (c ∷ r)) end) refl
 
 -- ---- the walk through a class
 
@@ -187,41 +191,39 @@ module _ (f : Flags) (end : ℕ) (P : Text → List Comment → Type 0) (none : 
     (other : (c : ℕ) (t : Text) (l : List Comment) → end < reach_of (c ∷ t) → P t l → P (c ∷ t) l)
     (escaped : (r u : Text) (l : List Comment) → EndsWith r u → end < reach_of (code "\\" ∷ r) → end ≤ reach_of u →
         P u l → P (code "\\" ∷ r) (escape_comments r (reach_of u) ++ l)) where
+  -- at the first character, if P holds of each shorter text
+  module _ (c : ℕ) (r : Text) (below : (m : Text) → bytes m ≤ bytes r → P m (class_comments f m end)) where
+    by_escape : c ≡ code "\\" → end < reach_of (c ∷ r) → (o : Reading Escape) → escape f true r ≡ o →
+        P (c ∷ r) (class_comments f (c ∷ r) end)
+    by_escape i lt (gives x u) o = by_reach (nat_le end (reach_of u)) refl
+      where
+        by_reach : (b : Bool) → nat_le end (reach_of u) ≡ b → P (c ∷ r) (class_comments f (c ∷ r) end)
+        by_reach true b =
+            subst (P (c ∷ r))
+            (sym (class.after_backslash f end (c ∷ r) c r refl lt x u i o (grind (arith, nat_tests))))
+            (subst (λ d. P (d ∷ r) (escape_comments r (reach_of u) ++ class_comments f u end)) (sym i)
+            (escaped r u _ (escape_cut f true r u x o) (subst (λ d. end < reach_of (d ∷ r)) i lt)
+            (grind (arith, nat_tests)) (below u (escape_within f true r u x o))))
+        by_reach false b =
+            subst (P (c ∷ r))
+            (sym (class.after_too_far f end (c ∷ r) c r refl lt x u i o (grind (arith, nat_tests)))) (none (c ∷ r))
+    by_escape i lt (fails e) o =
+        subst (P (c ∷ r)) (sym (class.no_escape f end (c ∷ r) c r refl i (λ x u g. absurd cc))) (none (c ∷ r))
+
+    first_turn : (b : Bool) → nat_le (reach_of (c ∷ r)) end ≡ b → P (c ∷ r) (class_comments f (c ∷ r) end)
+    first_turn true i = subst (P (c ∷ r)) (sym (class.at_end f end (c ∷ r) (grind (arith, nat_tests)))) (none (c ∷ r))
+    first_turn false i = elim (cases_eq c (code "\\")) [
+        | inl e ↦ by_escape e (grind (arith, nat_tests)) (escape f true r) refl
+        | inr e ↦
+          let lt : end < reach_of (c ∷ r) = grind (arith, nat_tests) in
+          subst (P (c ∷ r)) (sym (class.after_plain f end (c ∷ r) c r refl lt e)) (other c r _ lt (below r (omega arith)))
+      ]
+
   by_walk : (k : ℕ) (t : Text) → bytes t ≤ k → P t (class_comments f t end)
   by_walk k [] h = subst (P []) (sym (class.at_text_end f end [] refl)) (none [])
   by_walk zero (c ∷ r) h = absurd (omega (arith, h, shorter c r))
-  by_walk (suc k) (c ∷ r) h = by_end (nat_le (reach_of t) end) refl
-    where
-      t : Text
-      t = c ∷ r
-
-      by_escape : c ≡ code "\\" → end < reach_of t → (o : Reading Escape) → escape f true r ≡ o →
-          P t (class_comments f t end)
-      by_escape i lt (gives x u) o = by_reach (nat_le end (reach_of u)) refl
-        where
-          less : bytes u ≤ k
-          less = omega (arith, h, shorter c r, escape_within f true r u x o)
-
-          by_reach : (b : Bool) → nat_le end (reach_of u) ≡ b → P t (class_comments f t end)
-          by_reach true b =
-              subst (P t) (sym (class.after_backslash f end t c r refl lt x u i o (grind (arith, nat_tests))))
-              (subst (λ d. P (d ∷ r) (escape_comments r (reach_of u) ++ class_comments f u end)) (sym i)
-              (escaped r u _ (escape_cut f true r u x o) (subst (λ d. end < reach_of (d ∷ r)) i lt)
-              (grind (arith, nat_tests)) (by_walk k u less)))
-          by_reach false b =
-              subst (P t) (sym (class.after_too_far f end t c r refl lt x u i o (grind (arith, nat_tests)))) (none t)
-      by_escape i lt (fails e) o =
-          subst (P t) (sym (class.no_escape f end t c r refl i (λ x u g. absurd cc))) (none t)
-
-      by_end : (b : Bool) → nat_le (reach_of t) end ≡ b → P t (class_comments f t end)
-      by_end true i = subst (P t) (sym (class.at_end f end t (grind (arith, nat_tests)))) (none t)
-      by_end false i = elim (cases_eq c (code "\\")) [
-          | inl e ↦ by_escape e (grind (arith, nat_tests)) (escape f true r) refl
-          | inr e ↦
-            let lt : end < reach_of t = grind (arith, nat_tests) in
-            subst (P t) (sym (class.after_plain f end t c r refl lt e))
-            (other c r _ lt (by_walk k r (omega (arith, h, shorter c r))))
-        ]
+  by_walk (suc k) (c ∷ r) h =
+      first_turn c r (λ m l. by_walk k m (omega (arith, h, l, shorter c r))) (nat_le (reach_of (c ∷ r)) end) refl
 
 -- ---- what is found
 
@@ -307,9 +309,9 @@ hashless_less le [] h = tt
 hashless_less le (c ∷ t) h = (λ lt. h.0 (omega (arith, le, lt)), hashless_less le t h.1)
 
 -- from a later start
-hashless_end : {u : Text} {end : ℕ} (w : Text) → Hashless end (w ++ u) → Hashless end u
-hashless_end [] h = h
-hashless_end (c ∷ w) h = hashless_end w h.1
+hashless_end : (end : ℕ) (w u : Text) → Hashless end (w ++ u) → Hashless end u
+hashless_end end [] u h = h
+hashless_end end (c ∷ w) u h = hashless_end end w u h.1
 
 -- a `#` at the front, and what follows it reaches the end
 not_hashless : {end : ℕ} (t : Text) → end ≤ reach_of t → Hashless end (code "#" ∷ t) → ⊥
@@ -349,7 +351,7 @@ pub none_in_class : (f : Flags) (t : Text) (end : ℕ) → Hashless end t → cl
 none_in_class f t end s =
     by_walk f end (λ t l. Hashless end t → l ≡ []) (λ t h. refl) (λ c t l lt k h. k h.1)
     (λ r u l (w, e) lt le k h.
-    let rest : Hashless end u = hashless_end w (subst (Hashless end) e h.1) in
+    let rest : Hashless end u = hashless_end end w u (subst (Hashless end) e h.1) in
     ap (λ z. z ++ l) (none_in_escape r (reach_of u) (hashless_less le r h.1)) ∙ k rest)
     (bytes t) t (omega arith) s
 
@@ -361,7 +363,7 @@ hashless_here (c ∷ t) end h =
 
 -- a code of hex digits
 digits_hashless : (k a : ℕ) (t : Text) → IfSome (fixed_digits k a t) (λ p. Hashless (reach_of p.1) t)
-unfolding fixed_digits, hex_digit
+unfolding fixed_digits hex_digit
 digits_hashless zero a t = hashless_here t (reach_of t) (omega arith)
 digits_hashless (suc k) a [] = tt
 digits_hashless (suc k) a (c ∷ t) =
@@ -377,7 +379,7 @@ digits_hashless (suc k) a (c ∷ t) =
 
     by_test : (b : Bool) → nat_lt (digit_value c) 16 ≡ b →
         IfSome (fixed_digits k (a * 16 + digit_value c) t) (λ p. Hashless (reach_of p.1) t) →
-        IfSome (option_and_then (λ p. fixed_digits k (a * 16 + p.0) p.1) (if b then Some (digit_value c, t) else None))
+        IfSome (option_and_then (λ (p : ℕ × Text). fixed_digits k (a * 16 + p.0) p.1) (if b then Some (digit_value c, t) else None))
         (λ p. Hashless (reach_of p.1) (c ∷ t))
     by_test true e h = with_first (fixed_digits k (a * 16 + digit_value c) t) e h
     by_test false e h = tt
@@ -407,7 +409,7 @@ none_later p (suc n) (x ∷ xs) ys e =
 -- if no byte before those of the end is a `#`, no character is
 bytes_hashless : (t : Text) (after : ℕ) → list_any (λ y. y == code "#") (take (bytes t - after) (encodes t)) ≡ false →
     Hashless (after + 1) t
-unfolding bytes
+unfolding bytes encode
 bytes_hashless [] after e = tt
 bytes_hashless (c ∷ t) after e =
     let later = none_later (λ y. y == code "#") (bytes (c ∷ t) - after) (encode c) (encodes t) e in
@@ -433,7 +435,9 @@ no_hash bs after end u same e =
     by_end end same whole
   where
     by_end : (end : ℕ) → after ≡ end - 1 → Hashless (after + 1) (chars bs) → Hashless end (chars bs)
-    by_end zero i h = from_none (chars bs) (subst (λ n. Hashless (n + 1) (chars bs)) (i ∙ omega arith) h)
+    by_end zero i h =
+        let none : after ≡ 0 = omega (arith, i) in
+        from_none (chars bs) (subst (λ n. Hashless (n + 1) (chars bs)) none h)
       where
         from_none : (t : Text) → Hashless 1 t → Hashless 0 t
         from_none [] h = tt
