@@ -280,7 +280,8 @@ pub fn has_hash(text: &str, end: Reach) -> bool
 fn in_token(comment: LayoutComment<'_>, end: Reach) -> Option<LayoutComment<'_>>
     ensures value { (l : List Comment) →
         MatchOption result (if_inside end (comment_of comment.entry) l ≡ [])
-        (λ c. (c ≡ comment.entry) × (if_inside end (comment_of comment.entry) l ≡ comment_of c ∷ l)) }
+        (λ c. if_inside end (comment_of comment.entry) l ≡ comment_of c ∷ l) }
+    ensures same { IfSome result (λ c. c ≡ comment.entry) }
 {
     if end <= reach(comment.rest) {
         Some(comment)
@@ -291,7 +292,6 @@ fn in_token(comment: LayoutComment<'_>, end: Reach) -> Option<LayoutComment<'_>>
 
 /// The first comment in the token at the front of `text` that ends at the reach; none if it has no comment. In the token each
 /// `#` begins a comment, or is in one.
-#[tactic(auto, using(crate::proofs::TokenCommentLemmas::token_steps))]
 pub fn first_in_token(text: &str, end: Reach) -> Option<LayoutComment<'_>>
     ensures value { MatchOption result (token_comments (chars text.now) end ≡ [])
         (λ c. token_comments (chars text.now) end ≡ comment_of c ∷ token_comments (chars c.rest.now) end) }

@@ -1,4 +1,6 @@
-use Rattle.std.proofs.Common.{rules, arith, ◌∙◌}
+use Rattle.std.proofs.Common.{rules, arith, ap, sym, ◌∙◌, chars}
+use Rattle.fancy_lex.specs.Comments.{line_before}
+use Rattle.fancy_lex.specs.TokenComments.{if_inside}
 use Rattle.fancy_lex.proofs.LayoutLemmas.{line_plain}
 use Rattle.fancy_lex.proofs.CommentLemmas.{line_on}
 use Rattle.fancy_lex.proofs.LeaveLaws.{ends_next}
@@ -16,6 +18,8 @@ returns-then-c-eq10-clause-in_token c v start =
 pub returns-clause-in_token : goal.returns-clause-in_token
 returns-clause-in_token c v start =
     c.loop-c.invariant.in_token v start ∙ token.line_ends _ _ _ c.in_default.ensures.value
+    ∙ ap (if_inside v (line_before start (chars c.loop-c.rest.now)))
+    (sym (token.at_text_end _ _ c.in_default.ensures.value))
 
 pub loop-c-preserved : goal.loop-c-preserved
 loop-c-preserved c = record {
