@@ -272,7 +272,7 @@ struct fancy_range {
 
 /* Capacities that suffice for a pattern of this length in bytes, so that one call of fancy_parse or fancy_tree is enough. This
  * is proved for trees, whose texts have at most 6 * length bytes. FANCY_MAX_TEXTS also suffices for the message that fancy_tree
- * writes, which is tested. That FANCY_MAX_TRIVIA suffices for fancy_trivia is tested too: each trivium has a byte of its own.
+ * writes, which is tested. That FANCY_MAX_TRIVIA suffices for fancy_trivia is tested too: each trivium begins at a byte of its own.
  * FANCY_MAX_NAMES(0) is 0. */
 #define FANCY_MAX_NODES(length) (2 * (size_t)(length) + 1)
 #define FANCY_MAX_TEXTS(length) (6 * (size_t)(length) + 128)

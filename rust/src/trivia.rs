@@ -71,7 +71,7 @@ pub fn trivia(pattern: &str, flags: Flags) -> Result<Vec<Trivium>, Error> {
     guessed(&mut rows, most_usual(pattern));
     let mut result = ffi::trivia(pattern, flags.bits(), &mut rows, &mut count);
     if result.status == numbers::STATUS_BUFFER_TOO_SHORT {
-        // each trivium has a byte of its own
+        // each trivium begins at a byte of its own
         if count > pattern.len() {
             return Err(Error::Library("more trivia than bytes"));
         }
