@@ -25,5 +25,6 @@ pub returns-clause-matches : goal.returns-clause-matches
 returns-clause-matches c =
     let old = c.args.self.now.tree.now in
     if_true c.is_fixed.result
-    (keeps_matches (flags_of c.args.self.now.flags) (chars c.args.text.now) (view old.expr) (info_of old))
+    (keeps_matches (flags_of c.args.self.now.flags) c.args.text.now (view old.expr) (info_of old)
+    (comment_texts c.args.self.now.pattern.now (map trivium_of c.args.self.now.trivia.now)))
     (returns-clause-fixed c)
