@@ -30,7 +30,7 @@ use Rattle.fancy_lex.specs.declared.flags.Flags.{Flags}
 use Rattle.fancy_grammar.specs.AtomStart.{AtomStart, nothing, read, of_kind, condition, body, absent_branch, atom_start}
 use Rattle.fancy_grammar.specs.AtomStart.{after_question, backref_node, begins_no_atom, call_node, condition_start}
 use Rattle.fancy_grammar.specs.AtomStart.{flags_start, group_start, leaf_node, leaf_of, leaf_outcome, named_start}
-use Rattle.fancy_grammar.specs.AtomStart.{repeater_start, start_of, target_start}
+use Rattle.fancy_grammar.specs.AtomStart.{end_anchor, repeater_start, start_anchor, start_of, target_start}
 use Rattle.fancy_grammar.specs.Depth.{max_depth}
 use Rattle.fancy_grammar.specs.Grammar.{branches_of}
 use Rattle.fancy_grammar.specs.GroupKind.{GroupKind, capture, flag_group}
@@ -38,7 +38,7 @@ use Rattle.fancy_grammar.specs.Join.{is_empty}
 use Rattle.fancy_grammar.specs.Slices.{Slice}
 use Rattle.fancy_grammar.specs.Spans.{condition_text}
 use Rattle.fancy_grammar.specs.State.{State, at, skipped, Outcome, done, failed}
-use Rattle.fancy_grammar.specs.Tree.{Tree, delegate}
+use Rattle.fancy_grammar.specs.Tree.{Tree, any, assertion, delegate, literal, verb}
 use Rattle.fancy_grammar.specs.Trivia.{comments_in_start, dropped, flags, inner_at, inner_comment, inner_line_comment}
 use Rattle.fancy_grammar.specs.Trivia.{inner_of_counts, IsDropped, IsTextOf, of_inner, opening, Passed, start_of_conditional}
 use Rattle.fancy_grammar.specs.Trivia.{TriviumKind}
@@ -114,13 +114,13 @@ node_is_solid e = (refl, refl)
 leaf_has : (s : State) (c : ℕ) (t : Text) → HasStart s (read (leaf_of s c t))
 leaf_has s c t =
     let P : Outcome Tree → Type 0 = λ o. HasStart s (read o) in
-    cond_both (c == code ".") _ _ P (λ _. solid_leaf s (at s t) _ refl refl) (λ _.
-    cond_both (c == code "^") _ _ P (λ _. solid_leaf s (at s t) _ refl refl) (λ _.
-    cond_both (c == code "$") _ _ P (λ _. solid_leaf s (at s t) _ refl refl) (λ _.
+    cond_both (c == code ".") _ _ P (λ _. solid_leaf s (at s t) (any s.flags.dotnl s.flags.crlf) refl refl) (λ _.
+    cond_both (c == code "^") _ _ P (λ _. solid_leaf s (at s t) (assertion (start_anchor s.flags)) refl refl) (λ _.
+    cond_both (c == code "$") _ _ P (λ _. solid_leaf s (at s t) (assertion (end_anchor s.flags)) refl refl) (λ _.
     cond_both (c == code "\\") _ _ P (λ _. read_leaf s leaf_node node_is_solid (escape s.flags false t)) (λ _.
     cond_both (c == code "[") _ _ P
     (λ _. read_leaf s (λ w. delegate w s.flags.casei) (λ w. (refl, refl)) (class s.flags t))
-    (λ _. solid_leaf s (at s t) _ refl refl)))))
+    (λ _. solid_leaf s (at s t) (literal (c ∷ []) s.flags.casei) refl refl)))))
 
 module _ (s : State) (t u : Text) (e : s.rest ≡ code "(" ∷ t) (i : layout s.flags.ignore_space t ≡ rest u) where
   -- after the question mark at z
@@ -176,7 +176,7 @@ module _ (s : State) (t u : Text) (e : s.rest ≡ code "(" ∷ t) (i : layout s.
       choose_both (HasStart s) (strip_word (codes "?") u) _ _
       (λ z j. question_has z (strip_word_is (codes "?") u z j)) (
       choose_both (HasStart s) (strip_word (codes "*") u) _ _
-      (λ z j. choose_both (HasStart s) (verb_at z) _ _ (λ p h. solid_leaf s (at s p.1) _ refl refl) tt)
+      (λ z j. choose_both (HasStart s) (verb_at z) _ _ (λ p h. solid_leaf s (at s p.1) (verb p.0) refl refl) tt)
       (λ w cut. inr (refl, (t, sym cut ∙ e, i))))
 
 pub has_start : (d : ℕ) (s : State) → HasStart s (atom_start d s)

@@ -50,7 +50,7 @@ use Rattle.fancy_grammar.proofs.OutcomeLemmas.{Holds, after_keeps, skipped_both}
 use Rattle.fancy_grammar.proofs.Slices.{Reads, current, on, one, strip_slice}
 use Rattle.fancy_grammar.proofs.SpansCondition.{HasConditionText, condition_slice, condition_there}
 use Rattle.fancy_grammar.proofs.StartLaws.{HasStart, HasText, before_condition, condition_shorter, counts_inner, has_start, is_loud, start_inner}
-use Rattle.fancy_grammar.proofs.TriviaLemmas.{AllowsMore, Gap, InToken, Passes, PassesFrom, a_gap, allowed, dropped_passes}
+use Rattle.fancy_grammar.proofs.TriviaLemmas.{AllowsMore, Gap, InToken, Passes, PassesFrom, a_gap, allowed, cut_slice, dropped_passes}
 use Rattle.fancy_grammar.proofs.TriviaLemmas.{dropped_with, extended, filled_passes, followed, layout_passes, mapped_from}
 use Rattle.fancy_grammar.proofs.TriviaLemmas.{no_comment, no_gap, nothing, nothing_dropped, on_from, one_with, parts_cut}
 use Rattle.fancy_grammar.proofs.TriviaLemmas.{returned_are_parts, returned_fill, returned_in_order, separated, token_with}
@@ -71,18 +71,19 @@ suffix_ends : (s : State) (c : Counts) → EndsPastLayout s (suffix s c)
 suffix_ends s c =
     skipped_both W (skipped s) _ _ (λ t e.
     choose_both W (strip (code "?") t) _ _
-    (λ u i. after_operator true t u e (strip_slice (code "?") t u i) (inr (inl refl)) (inr (inr (inr refl))))
-    (after_operator false t t e (current t) (inl refl) (inr (inr (inl refl))))) (λ p e. tt)
+    (λ u i. after_operator true t u e (codes "?") (strip_is (code "?") t u i) (inr (inl refl)) (inr (inr (inr refl))))
+    (after_operator false t t e [] refl (inl refl) (inr (inr (inl refl))))) (λ p e. tt)
   where
     W : Outcome Suffix → Type 0
     W = EndsPastLayout s
 
-    after_operator : (lazy : Bool) (t u : Text) → skipped s ≡ rest t → (h : Slice t u) → IsSuffix h.word →
-        IsSuffix (h.word ++ codes "+") → W (after_lazy s c lazy u)
-    after_operator lazy t u e h one both =
+    after_operator : (lazy : Bool) (t u : Text) → skipped s ≡ rest t → (w : Text) → t ≡ w ++ u → IsSuffix w →
+        IsSuffix (w ++ codes "+") → W (after_lazy s c lazy u)
+    after_operator lazy t u e w cut alone both =
         cond_both (may_be_possessive s.flags c) _ _ W
-        (λ _. choose_both W (strip (code "+") u) _ _ (λ v i. (t, e, on h (strip_slice (code "+") u v i), both))
-        (t, e, h, one)) (λ _. (t, e, h, one))
+        (λ _. choose_both W (strip (code "+") u) _ _ (λ v i. (t, e, cut_slice (w ++ codes "+")
+        (cut ∙ ap (λ z. w ++ z) (strip_is (code "+") u v i) ∙ sym (append_assoc w (codes "+") v)), both))
+        (t, e, cut_slice w cut, alone)) (λ _. (t, e, cut_slice w cut, alone))
 
 -- there may be any segments, or only separators
 abbrev some : {A : Type 0} → A → Bool
@@ -227,10 +228,10 @@ quant_passes left a s p = by_layout (skipped s) refl
     by_layout (open_comment r) e = tt
 
 -- more quantifiers after those of b
-then_quants : {a b : Tree} {t u : Text} {p q : List Passed} (m : List Passed) (o : Outcome Tree) →
+then_quants : (a b : Tree) {t u : Text} {p q : List Passed} (m : List Passed) (o : Outcome Tree) →
     Passes (is_loud b) t u p q → AllowsMore (is_loud a) (is_loud b) → QuantFrom b u q m o → QuantFrom a t p m o
-then_quants m (done c v) h g (i, j) = (followed (allowed (is_loud c) j h) i, λ e. g (j e))
-then_quants m (failed e) h g i = tt
+then_quants a b m (done c v) h g (i, j) = (followed (allowed (is_loud c) j h) i, λ e. g (j e))
+then_quants a b m (failed e) h g i = tt
 
 adjacent_passes : (k d : ℕ) (a : Tree) (s : State) (p : List Passed) →
     QuantFrom a s.rest p (adjacent_trivia k a s p) (adjacent k d a s)
@@ -257,7 +258,7 @@ adjacent_passes (suc k) d a s p =
         QuantFrom a s.rest p (if c then q else adjacent_trivia k b v q)
         (if c then done b v else if e then adjacent k (d + 1) b v else failed (quantifier_too_deep v.rest))
     by_tests true e b v h g i = (h, g)
-    by_tests false true b v h g i = then_quants (adjacent_trivia k b v q) (adjacent k (d + 1) b v) h g i
+    by_tests false true b v h g i = then_quants a b (adjacent_trivia k b v q) (adjacent k (d + 1) b v) h g i
     by_tests false false b v h g i = tt
 
     by_first : ((b : Tree) (v : State) → GoesOn b v) → (o : Outcome Tree) → QuantFrom a s.rest p q o →
@@ -279,7 +280,7 @@ quants_passes d left a s p = by_first (quant left a s) (quant_passes left a s p)
         QuantFrom a s.rest p (if c then adjacent_trivia max_adjacent b v q else q)
         (if c then adjacent max_adjacent d b v else done b v)
     by_mode true b v h g =
-        then_quants (adjacent_trivia max_adjacent b v q) (adjacent max_adjacent d b v) h g
+        then_quants a b (adjacent_trivia max_adjacent b v q) (adjacent max_adjacent d b v) h g
         (adjacent_passes max_adjacent d b v q)
     by_mode false b v h g = (h, g)
 
@@ -313,24 +314,24 @@ empty_quiet (row k rs) e = absurd (false≢true e)
 
 none_quiet : (rs : List Tree) → solid rs ≡ [] → any_loud rs ≡ false
 none_quiet [] e = refl
-none_quiet (r ∷ rs) e = by_test (is_empty r) refl e
+none_quiet (r ∷ rs) e = by_test (is_empty r) refl e (λ h. none_quiet rs h)
   where
     by_test : (b : Bool) → is_empty r ≡ b → (if b then solid rs else r ∷ solid rs) ≡ [] →
-        (is_loud r || any_loud rs) ≡ false
-    by_test true i e = both_quiet (is_loud r) (any_loud rs) (empty_quiet r i) (none_quiet rs e)
-    by_test false i e = absurd cc
+        (solid rs ≡ [] → any_loud rs ≡ false) → (is_loud r || any_loud rs) ≡ false
+    by_test true i e others = both_quiet (is_loud r) (any_loud rs) (empty_quiet r i) (others e)
+    by_test false i e others = absurd cc
 
 one_quiet : (rs : List Tree) (x : Tree) → solid rs ≡ x ∷ [] → is_loud x ≡ false → any_loud rs ≡ false
 one_quiet [] x e h = absurd cc
-one_quiet (r ∷ rs) x e h = by_test (is_empty r) refl e
+one_quiet (r ∷ rs) x e h = by_test (is_empty r) refl e (λ k. one_quiet rs x k h)
   where
     by_test : (b : Bool) → is_empty r ≡ b → (if b then solid rs else r ∷ solid rs) ≡ x ∷ [] →
-        (is_loud r || any_loud rs) ≡ false
-    by_test true i e = both_quiet (is_loud r) (any_loud rs) (empty_quiet r i) (one_quiet rs x e h)
-    by_test false i e =
+        (solid rs ≡ x ∷ [] → any_loud rs ≡ false) → (is_loud r || any_loud rs) ≡ false
+    by_test true i e others = both_quiet (is_loud r) (any_loud rs) (empty_quiet r i) (others e)
+    by_test false i e others =
         let same : r ≡ x = cc in
-        let others : solid rs ≡ [] = cc in
-        both_quiet (is_loud r) (any_loud rs) (ap is_loud same ∙ h) (none_quiet rs others)
+        let none : solid rs ≡ [] = cc in
+        both_quiet (is_loud r) (any_loud rs) (ap is_loud same ∙ h) (none_quiet rs none)
 
 -- a branch of these pieces
 joined : (rs : List Tree) → AllowsMore (any_loud rs) (is_loud (join rs))
@@ -362,7 +363,7 @@ module _ (d : ℕ) (s t : State) (k : Slice s.rest t.rest) (p : List Passed) whe
   in_start : InToken s.rest t.rest (inner_at s (reach_of t.rest))
   in_start = start_inner s t.rest k
 
-  l : List Passed
+  abbrev l : List Passed
   l = inner_at s (reach_of t.rest)
 
   -- the opening of an atom that has a node
@@ -518,12 +519,28 @@ held_body {t} {p} c m (done r v) h i g =
     subst (λ b. Passes b t v.rest p m) (sym (i.1 refl)) (followed h g)
 held_body c m (failed e) h i g = tt
 
+-- the body, after the condition c that is read from t on: alone, up to its parenthesis, or in a node, past it
+after_condition : {t z : Text} {p m n : List Passed} (x : Bool) (c : Tree) (o : Outcome Tree)
+    (f : List Passed → List Passed) → Passes (is_loud c) t (code ")" ∷ z) p m → Passes true t z p n → LeavesBody x c o →
+    ((p : List Passed) → PassesFrom (λ r. not x) z p (f p) o) →
+    PassesFrom is_loud t p (if x then filled (reach_of z + 1) (end_of o) (f []) m else f n) o
+after_condition true c o f first held l g = filled_body c (f []) o first l (g [])
+after_condition {n} false c o f first held l g = held_body c (f n) o held l (g n)
+
 stopper_loud : (a : Tree) → is_loud (clear_or_stopper a) ≡ true
 stopper_loud a = cond_both (is_empty a) _ _ (λ r. is_loud r ≡ true) (λ _. refl) (λ _. refl)
 
 -- whatever was read
 to_true : (b : Bool) → AllowsMore b true
 to_true b e = absurd (false≢true (sym e))
+
+-- the second branch of an absent expression, and the parenthesis
+second_passes : {u : Text} {p' : List Passed} (t : Text) (p m : List Passed) (a : Tree) → Passes true t u p p' →
+    (q : Outcome Tree) → PassesFrom is_loud u p' m q → PassesFrom is_loud t p m (and_then q (λ r. closed (expression a r)))
+second_passes t p m a first (done r w) g =
+    past_paren t p m (closed (expression a r) w)
+    (closed_passes (expression a r) w (followed first (allowed true (to_true (is_loud r)) g)))
+second_passes t p m a first (failed e) g = tt
 
 -- more trees after the first
 then_branches : {u : Text} {p' : List Passed} (t : Text) (p m : List Passed) (r : Tree) (q : Outcome (List Tree)) →
@@ -615,38 +632,23 @@ mutual
           (followed (opening_passes d s t h.0 p kind r e z)
           (allowed (is_loud (group_node kind (reach_of s.rest) r)) (group_allows kind (reach_of s.rest) r) g))
       by_contents (failed e) g = tt
-  of_passes {d} {s} (a_condition {t} {v} {c} {o} i b) p e h z x =
-      by_test (leaves_condition b) (body_leaves b) (body_passes b)
-    where
-      k : List Passed
-      k = p ++ inner_at s (reach_of t.rest)
-
-      q : List Passed
-      q = with_dropped (reach_of s.rest) (reach_of t.rest) p ++ inner_at s (reach_of t.rest)
-
-      inner : InToken s.rest t.rest (inner_at s (reach_of t.rest))
-      inner = start_inner s t.rest h.0
-
-      -- the opening is a part of the list
-      first : Passes (is_loud c) s.rest (code ")" ∷ v.rest) p (inside_trivia i q)
-      first =
-          followed (dropped_with (nothing no_gap) h.0 (z h.0.word h.0.cut) (omega (arith, h.1)) inner) (inside_passes i q)
-
-      -- it is own text of the conditional
-      held : Passes true s.rest v.rest p (inside_trivia i k)
-      held =
-          extended (followed (opened d s t h.0 p (subst (λ x. OpensAt s x t.rest) (sym e) refl))
-          (allowed true (to_true (is_loud c)) (inside_passes i k))) (paren_gap true v.rest)
-
-      by_test : (x : Bool) → LeavesBody x c o →
-          ((p : List Passed) → PassesFrom (λ r. not x) v.rest p (body_trivia b p) o) →
-          PassesFrom is_loud s.rest p (if x then filled (reach_of v.rest + 1) (end_of o) (body_trivia b [])
-          (inside_trivia i q) else body_trivia b (inside_trivia i k)) o
-      by_test true l g = filled_body c (body_trivia b []) o first l (g [])
-      by_test false l g = held_body c (body_trivia b (inside_trivia i k)) o held l (g (inside_trivia i k))
+  of_passes {d} {s} {o} (a_condition {t} {v} {c} i b) p e h z x =
+      let inner = inner_at s (reach_of t.rest) in
+      let k = p ++ inner in
+      let q = with_dropped (reach_of s.rest) (reach_of t.rest) p ++ inner in
+      let opens = subst (λ x. OpensAt s x t.rest) (sym e) refl in
+      let dropped_opening =
+      dropped_with (nothing no_gap) h.0 (z h.0.word h.0.cut) (omega (arith, h.1)) (start_inner s t.rest h.0) in
+      after_condition (leaves_condition b) c o (body_trivia b) (followed dropped_opening (inside_passes i q))
+      (extended (followed (opened d s t h.0 p opens) (allowed true (to_true (is_loud c)) (inside_passes i k)))
+      (paren_gap true v.rest))
+      (body_leaves b) (λ p. body_passes b p)
   of_passes (condition_error i) p e h z x = tt
   of_passes {d} {s} {o} (a_body {t} {c} b) p e h z (u, there, l, (w, ends)) =
-      by_test (leaves_condition b) (body_leaves b) (body_passes b)
+      after_condition (leaves_condition b) c o (body_trivia b)
+      (subst (λ x. Passes x s.rest (code ")" ∷ t.rest) p (with_dropped (reach_of s.rest) start p ++ inner_at s start))
+      (sym z) first)
+      held (body_leaves b) (λ p. body_passes b p)
     where
       start : ℕ
       start = (condition_span s t).start
@@ -678,38 +680,13 @@ mutual
           extended (extended (token_with before.word refl (nothing no_gap) before.cut
           (an_opening d s (subst (λ x. OpensAt s x u) (sym e) there) before.cut) inner no_gap refl) leaf_gap)
           (paren_gap true t.rest)
-
-      by_test : (x : Bool) → LeavesBody x c o →
-          ((p : List Passed) → PassesFrom (λ r. not x) t.rest p (body_trivia b p) o) →
-          PassesFrom is_loud s.rest p (if x then filled (reach_of t.rest + 1) (end_of o) (body_trivia b [])
-          (with_dropped (reach_of s.rest) start p ++ inner_at s start) else body_trivia b (p ++ inner_at s start)) o
-      by_test true l g =
-          filled_body c (body_trivia b []) o
-          (subst (λ x. Passes x s.rest (code ")" ∷ t.rest) p (with_dropped (reach_of s.rest) start p ++ inner_at s start))
-          (sym z) first) l (g [])
-      by_test false l g =
-          held_body c (body_trivia b (p ++ inner_at s start)) o held l (g (p ++ inner_at s start))
   of_passes {d} {s} (two_branches {t} {v} {u} {a} {q} b f m) p e h z x =
-      by_second q (branch_passes m (branch_trivia b k))
-    where
-      k : List Passed
-      k = p ++ inner_at s (reach_of t.rest)
-
-      all : List Passed
-      all = branch_trivia m (branch_trivia b k)
-
-      first : Passes true s.rest u p (branch_trivia b k)
-      first =
-          extended (followed (opened d s t h.0 p (subst (λ x. OpensAt s x t.rest) (sym e) refl))
-          (allowed true (to_true (is_loud a)) (branch_passes b k)))
-          (separated true (code "|" ∷ []) (strip_is (code "|") v.rest u f) (a_bar refl))
-
-      by_second : (q : Outcome Tree) → PassesFrom is_loud u (branch_trivia b k) all q →
-          PassesFrom is_loud s.rest p all (and_then q (λ r. closed (expression a r)))
-      by_second (done r w) g =
-          past_paren s.rest p all (closed (expression a r) w)
-          (closed_passes (expression a r) w (followed first (allowed true (to_true (is_loud r)) g)))
-      by_second (failed e) g = tt
+      let k = p ++ inner_at s (reach_of t.rest) in
+      let opens = subst (λ x. OpensAt s x t.rest) (sym e) refl in
+      let first =
+      extended (followed (opened d s t h.0 p opens) (allowed true (to_true (is_loud a)) (branch_passes b k)))
+      (separated true (code "|" ∷ []) (strip_is (code "|") v.rest u f) (a_bar refl)) in
+      second_passes s.rest p (branch_trivia m (branch_trivia b k)) a first q (branch_passes m (branch_trivia b k))
   of_passes {d} {s} (one_branch {t} {v} {a} b f) p e h z x =
       let k = p ++ inner_at s (reach_of t.rest) in
       let read =

@@ -46,13 +46,13 @@ abbrev pub SegmentOf : Bool → Text → Text → Type 0
 SegmentOf true w v = IsSegment w v
 SegmentOf false w v = IsSeparator w
 
-pub as_segment : {w v : Text} (b : Bool) → SegmentOf b w v → IsSegment w v
-as_segment true p = p
-as_segment false p = a_separator p
+as_segment : (w v : Text) (b : Bool) → SegmentOf b w v → IsSegment w v
+as_segment w v true p = p
+as_segment w v false p = a_separator p
 
-separator_of : {w : Text} (v : Text) (b : Bool) → IsSeparator w → SegmentOf b w v
-separator_of v true p = a_separator p
-separator_of v false p = p
+separator_of : (w v : Text) (b : Bool) → IsSeparator w → SegmentOf b w v
+separator_of w v true p = a_separator p
+separator_of w v false p = p
 
 -- the text from t up to u is segments, one after another
 pub data Gap (b : Bool) : Text → Text → Type 0 where
@@ -63,16 +63,24 @@ pub gap_on : {b : Bool} {t u v : Text} → Gap b t u → Gap b u v → Gap b t v
 gap_on no_gap k = k
 gap_on (gap w e p h) k = gap w e p (gap_on h k)
 
-cut_slice : {t v : Text} (w : Text) → t ≡ w ++ v → Slice t v
+abbrev pub cut_slice : {t v : Text} (w : Text) → t ≡ w ++ v → Slice t v
 cut_slice w e = record { word = w; cut = e }
 
-pub gap_slice : {b : Bool} {t u : Text} → Gap b t u → Slice t u
-gap_slice {t} no_gap = current t
-gap_slice (gap w e p h) = on (cut_slice w e) (gap_slice h)
+-- the text of the segments
+abbrev pub gap_word : {b : Bool} {t u : Text} → Gap b t u → Text
+gap_word no_gap = []
+gap_word (gap w e p h) = w ++ gap_word h
+
+pub gap_cut : {b : Bool} {t u : Text} (g : Gap b t u) → t ≡ gap_word g ++ u
+gap_cut no_gap = refl
+gap_cut {u} (gap w e p h) = e ∙ ap (λ z. w ++ z) (gap_cut h) ∙ sym (append_assoc w (gap_word h) u)
+
+abbrev pub gap_slice : {b : Bool} {t u : Text} → Gap b t u → Slice t u
+gap_slice g = cut_slice (gap_word g) (gap_cut g)
 
 -- one separator
 pub separated : {t u : Text} (b : Bool) (w : Text) → t ≡ w ++ u → IsSeparator w → Gap b t u
-separated {u} b w e p = gap w e (separator_of u b p) no_gap
+separated {u} b w e p = gap w e (separator_of w u b p) no_gap
 
 -- one segment
 pub a_gap : {t u : Text} {b : Bool} (w : Text) → b ≡ true → t ≡ w ++ u → IsSegment w u → Gap b t u
@@ -82,13 +90,13 @@ a_gap {u} w i e p = gap w e (subst (λ b. SegmentOf b w u) (sym i) p) no_gap
 abbrev pub AllowsMore : Bool → Bool → Type 0
 AllowsMore b c = c ≡ false → b ≡ false
 
-more_segments : {w v : Text} (b c : Bool) → AllowsMore b c → SegmentOf b w v → SegmentOf c w v
-more_segments b true f p = as_segment b p
-more_segments {w} {v} b false f p = subst (λ b. SegmentOf b w v) (f refl) p
+more_segments : (b c : Bool) (w v : Text) → AllowsMore b c → SegmentOf b w v → SegmentOf c w v
+more_segments b true w v f p = as_segment w v b p
+more_segments b false w v f p = subst (λ b. SegmentOf b w v) (f refl) p
 
-more_gap : {t u : Text} (b c : Bool) → AllowsMore b c → Gap b t u → Gap c t u
+more_gap : (b c : Bool) {t u : Text} → AllowsMore b c → Gap b t u → Gap c t u
 more_gap b c f no_gap = no_gap
-more_gap b c f (gap w e p h) = gap w e (more_segments b c f p) (more_gap b c f h)
+more_gap b c f (gap {u} w e p h) = gap w e (more_segments b c w u f p) (more_gap b c f h)
 
 more_true : (b c : Bool) → AllowsMore b c → b ≡ true → c ≡ true
 more_true b true f i = refl
@@ -109,10 +117,10 @@ separator_characters w (whitespace f h) = blanks w h
     blanks [] h = tt
     blanks (c ∷ w) h = (blank f.ignore_space c h.0, blanks w h.1)
 
-gap_characters : {t u : Text} (g : Gap false t u) → AllByRecursion (λ c. (c ∈ "|) \r\n\t") ≡ true) (gap_slice g).word
+gap_characters : {t u : Text} (g : Gap false t u) → AllByRecursion (λ c. (c ∈ "|) \r\n\t") ≡ true) (gap_word g)
 gap_characters no_gap = tt
 gap_characters (gap w e p h) =
-    each_append (λ c. (c ∈ "|) \r\n\t") ≡ true) w (gap_slice h).word (separator_characters w p) (gap_characters h)
+    each_append (λ c. (c ∈ "|) \r\n\t") ≡ true) w (gap_word h) (separator_characters w p) (gap_characters h)
 
 -- ---- parts and segments
 
@@ -143,7 +151,7 @@ followed h (one_with k n w x e j i y z s f) = one_with k n w (followed h x) e j 
 followed h (token_with w i x e y z s f) = token_with w i (followed h x) e y z s f
 
 -- with other segments allowed
-pub allowed : {t u : Text} {p m : List Passed} {b : Bool} (c : Bool) → AllowsMore b c → Passes b t u p m → Passes c t u p m
+pub allowed : {b : Bool} {t u : Text} {p m : List Passed} (c : Bool) → AllowsMore b c → Passes b t u p m → Passes c t u p m
 allowed {b} c f (nothing g) = nothing (more_gap b c f g)
 allowed {b} c f (one_with k n w x e j i y z s g) = one_with k n w (allowed c f x) e j i y z (more_gap b c f s) g
 allowed {b} c f (token_with w i x e y z s g) =
@@ -345,16 +353,16 @@ filled_passes {b} {t} {a} {v} {p} {q} {l} h g =
 
 -- ---- layout
 
-units_pass : {t v : Text} {l : List Comment} (f : Flags) → AreInLayout f.ignore_space t v l → (p : List Passed) →
+units_pass : (f : Flags) {t v : Text} {l : List Comment} → AreInLayout f.ignore_space t v l → (p : List Passed) →
     Passes false t v p (p ++ map of_comment l)
-units_pass {t} {v} f (no_unit w b e) p =
+units_pass f {t} {v} (no_unit w b e) p =
     subst (Passes false t v p) (sym (append-nil p)) (nothing (separated false w e (whitespace f b)))
-units_pass {t} {v} f (a_comment {m} {l} w u b e h k) p =
+units_pass f {t} {v} (a_comment {m} {l} w u b e h k) p =
     let x = reached comment false (u ++ m) m in
     let first : Passes false t m p (p ++ x ∷ []) =
     one_more comment u (nothing (separated false w e (whitespace f b))) refl refl h refl in
     subst (Passes false t v p) (append_assoc p (x ∷ []) (map of_comment l)) (followed first (units_pass f k (p ++ x ∷ [])))
-units_pass {t} {v} f (a_line {m} {l} w u b e h k) p =
+units_pass f {t} {v} (a_line {m} {l} w u b e h k) p =
     let x = reached line_comment false (u ++ m) m in
     let first : Passes false t m p (p ++ x ∷ []) =
     one_more line_comment u (nothing (separated false w e (whitespace f b))) refl refl h refl in
@@ -547,7 +555,7 @@ module _ (text : Text) where
 
     gap_fills : {b : Bool} {t u : Text} {l : List Trivium} → Gap b t u → Fills (bytes text) u l → Fills (bytes text) t l
     gap_fills no_gap k = k
-    gap_fills {b} (gap w e p h) k = segment_fills w e (as_segment b p) (gap_fills h k)
+    gap_fills {b} (gap {u} w e p h) k = segment_fills w e (as_segment w u b p) (gap_fills h k)
 
     passes_fill : {b : Bool} {t u : Text} {m : List Passed} {l : List Trivium} → Passes b t u [] m →
         Fills (bytes text) u l → Fills (bytes text) t (shown m ++ l)
