@@ -89,6 +89,10 @@ impl Spans {
         ensures { OnOk result (log_of self.new ≡
             spec.pass (map of_inner (token_comments (chars text.now) end)) (log_of self.old)) }
     {
+        // Usually there is no `#`, and so no comment.
+        if !has_hash(text, end) {
+            return Ok(());
+        }
         let mut rest = text;
         while let Some(comment) = first_in_token(rest, end) {
             self.passed.push(inner_trivium(comment))?;
@@ -120,6 +124,10 @@ impl Spans {
         ensures { OnOk result (log_of self.new ≡
             spec.pass (map of_inner (class_comments flags (chars text.now) end)) (log_of self.old)) }
     {
+        // Usually there is no `#`, and so no comment.
+        if !has_hash(text, end) {
+            return Ok(());
+        }
         let mut rest = text;
         while let Some((inside, after)) = next_escape(alloc, rest, end, flags) {
             self.pass_escape(inside, reach(after))?;
@@ -257,12 +265,11 @@ impl Spanning for Spans {
     }
 
     fn pass_counts(&mut self, counts: Counts, start: &str, after: &str) -> Result<(), AllocError> {
-        // Usually there is no `#`, and so no comment.
-        let end = reach(after);
-        if !counts.braces || !has_hash(start, end) {
-            return Ok(());
+        if counts.braces {
+            self.pass_token(start, reach(after))
+        } else {
+            Ok(())
         }
-        self.pass_token(start, end)
     }
 
     fn pass_start(&mut self, alloc: Global, start: State, end: Reach) -> Result<(), AllocError> {
@@ -270,9 +277,9 @@ impl Spanning for Spans {
             return Ok(());
         };
         match c {
-            '(' if has_hash(rest, end) => self.pass_token(rest, end),
+            '(' => self.pass_token(rest, end),
             '\\' => self.pass_escape(rest, end),
-            '[' if has_hash(rest, end) => self.pass_class(alloc, rest, end, start.flags),
+            '[' => self.pass_class(alloc, rest, end, start.flags),
             _ => Ok(()),
         }
     }
