@@ -1,6 +1,6 @@
 -- What the token that begins an atom is, and that the comments in it lie in it, one after another.
 use Rattle.std.proofs.Common.{◌≡◌, ℕ, ◌+◌, ◌<◌, ◌==◌, Bool, true, false, List, [], ◌∷◌, ◌++◌, Option, Some, None, codes}
-use Rattle.std.proofs.Common.{nat_le, refl, sym, ap, ◌∙◌, subst, arith, inl, inr, map, ◌&&◌}
+use Rattle.std.proofs.Common.{nat_le, refl, sym, ap, ◌∙◌, arith, inl, inr, map, ◌&&◌}
 use Rattle.std.specs.Prelude.{⊤, not}
 use Rattle.std.specs.Option.{option_and_then}
 use Rattle.std.proofs.lemmas.Bool.{cond_both, false≢true}
@@ -18,29 +18,28 @@ use Rattle.fancy_lex.specs.Escaped.{Escape}
 use Rattle.fancy_lex.specs.FlagLetters.{Letters, inline_flags, flag_group as scoped}
 use Rattle.fancy_lex.specs.GroupName.{group_name}
 use Rattle.fancy_lex.specs.GroupReference.{begins_target, condition_target, named_call, named_reference}
-use Rattle.fancy_lex.specs.Layout.{IsComment, IsLineComment, comment_start}
+use Rattle.fancy_lex.specs.Layout.{IsComment, IsLineComment}
 use Rattle.fancy_lex.specs.LayoutSteps.{Skipped, layout, rest, rest_of, past_layout, failed as open_comment}
 use Rattle.fancy_lex.specs.LetterSteps.{letters}
 use Rattle.fancy_lex.specs.Reading.{Reading, gives, fails}
-use Rattle.fancy_lex.specs.Referred.{Call, Reference}
+use Rattle.fancy_lex.specs.Referred.{Reference}
 use Rattle.fancy_lex.specs.Text.{Text, EndsWith, bytes, reach_of, strip, strip_word}
-use Rattle.fancy_lex.specs.TokenComments.{token_comments}
 use Rattle.fancy_lex.specs.declared.counts.Counts.{Counts}
 use Rattle.fancy_lex.specs.declared.flags.Flags.{Flags}
-use Rattle.fancy_grammar.specs.AtomStart.{AtomStart, nothing, read, of_kind, condition, body, absent_branch, atom_start}
+use Rattle.fancy_grammar.specs.AtomStart.{AtomStart, read, of_kind, condition, body, atom_start}
 use Rattle.fancy_grammar.specs.AtomStart.{after_question, backref_node, begins_no_atom, call_node, condition_start}
 use Rattle.fancy_grammar.specs.AtomStart.{flags_start, group_start, leaf_node, leaf_of, leaf_outcome, named_start}
 use Rattle.fancy_grammar.specs.AtomStart.{end_anchor, repeater_start, start_anchor, start_of, target_start}
 use Rattle.fancy_grammar.specs.Depth.{max_depth}
 use Rattle.fancy_grammar.specs.Grammar.{branches_of}
-use Rattle.fancy_grammar.specs.GroupKind.{GroupKind, capture, flag_group}
+use Rattle.fancy_grammar.specs.GroupKind.{capture, flag_group}
 use Rattle.fancy_grammar.specs.Join.{is_empty}
 use Rattle.fancy_grammar.specs.Slices.{Slice}
 use Rattle.fancy_grammar.specs.Spans.{condition_text}
-use Rattle.fancy_grammar.specs.State.{State, at, skipped, Outcome, done, failed}
+use Rattle.fancy_grammar.specs.State.{State, at, skipped, Outcome, done}
 use Rattle.fancy_grammar.specs.Tree.{Tree, any, assertion, delegate, literal, verb}
 use Rattle.fancy_grammar.specs.Trivia.{comments_in_start, dropped, flags, inner_at, inner_comment, inner_line_comment}
-use Rattle.fancy_grammar.specs.Trivia.{inner_of_counts, IsDropped, IsTextOf, of_inner, opening, Passed, start_of_conditional}
+use Rattle.fancy_grammar.specs.Trivia.{inner_of_counts, IsDropped, IsTextOf, of_inner, opening, start_of_conditional}
 use Rattle.fancy_grammar.specs.Trivia.{TriviumKind}
 use Rattle.fancy_grammar.specs.Verb.{verb_at}
 use Rattle.fancy_grammar.proofs.OutcomeLemmas.{skipped_both}

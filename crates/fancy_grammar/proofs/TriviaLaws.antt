@@ -47,7 +47,7 @@ use Rattle.fancy_grammar.specs.Trivia.{piece_trivia, atom_trivia, atom_of_trivia
 use Rattle.fancy_grammar.specs.Trivia.{with_dropped, filled, layout_end, counted_trivia, leaves_condition}
 use Rattle.fancy_grammar.proofs.AtomStartLaws.{IsLeaf, StartReads, start_reads}
 use Rattle.fancy_grammar.proofs.OutcomeLemmas.{Holds, after_keeps, skipped_both}
-use Rattle.fancy_grammar.proofs.Slices.{Reads, current, on, one, strip_slice}
+use Rattle.fancy_grammar.proofs.Slices.{Reads, one}
 use Rattle.fancy_grammar.proofs.SpansCondition.{HasConditionText, condition_slice, condition_there}
 use Rattle.fancy_grammar.proofs.StartLaws.{HasStart, HasText, before_condition, condition_shorter, counts_inner, has_start, is_loud, start_inner}
 use Rattle.fancy_grammar.proofs.TriviaLemmas.{AllowsMore, Gap, InToken, Passes, PassesFrom, a_gap, allowed, cut_slice, dropped_passes}

@@ -7,7 +7,6 @@ use Rattle.std.specs.Str.{IsUtf8, IsCharBoundary}
 use Rattle.std.proofs.lemmas.Bool.{cond_both, false≢true}
 use Rattle.std.proofs.lemmas.Bool.Decides.{nat_tests}
 use Rattle.std.proofs.lemmas.List.{map-append}
-use Prim.Native.Char.{code}
 use Rattle.fancy_lex.proofs.CommentLaws.{AreInLayout, no_more as no_unit, a_comment, a_line, comments_are_units}
 use Rattle.fancy_lex.proofs.TextLemmas.{bytes-append}
 use Rattle.fancy_lex.proofs.TokenCommentLaws.{same_end}

@@ -15,7 +15,7 @@ use Rattle.fancy_lex.specs.Characters.{◌∈◌}
 use Rattle.fancy_lex.specs.Layout.{IsComment, IsLineComment}
 use Rattle.fancy_lex.specs.LayoutSteps.{past_layout, layout, rest}
 use Rattle.fancy_lex.specs.Reading.{choose, gives}
-use Rattle.fancy_lex.specs.Text.{Text, bytes, reach_of, strip}
+use Rattle.fancy_lex.specs.Text.{Text, bytes, reach_of}
 use Rattle.fancy_lex.specs.declared.flags.Flags.{Flags}
 use Rattle.fancy_grammar.specs.Ranks.{only_named}
 use Rattle.fancy_lex.specs.declared.counts.Counts.{Counts}

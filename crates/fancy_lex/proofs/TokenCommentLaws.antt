@@ -1,7 +1,7 @@
 -- The scans of a token and of a class: an induction for each, and what follows from it. What they find are comments of the
 -- text, one after another, and without a `#` there are none.
 use Rattle.std.proofs.Common.{◌≡◌, ◌≢◌, ℕ, zero, suc, ◌+◌, ◌-◌, ◌*◌, ◌≤◌, ◌<◌, Bool, true, false, List, [], ◌∷◌, ◌++◌, Option}
-use Rattle.std.proofs.Common.{Some, None, ap, sym, ◌∙◌, refl, subst, arith, inl, inr, append-nil, append_assoc, nat_le, nat_lt, ◌⊎◌}
+use Rattle.std.proofs.Common.{Some, None, ap, sym, ◌∙◌, refl, subst, arith, inl, inr, append-nil, nat_le, nat_lt}
 use Rattle.std.proofs.Common.{length, length-append, chars, codes, take, ◌==◌, ◌||◌, if◌then◌else◌}
 use Rattle.std.specs.Prelude.{⊤, IfSome}
 use Rattle.std.specs.List.{list_any}

@@ -1,11 +1,11 @@
 -- One step of the definition of comments in a token, for a text that an equation describes.
-use Rattle.std.proofs.Common.{◌≡◌, ◌≢◌, ℕ, ◌+◌, ◌≤◌, ◌<◌, Bool, true, false, [], ◌∷◌, Some, None, arith, ◌==◌, ap, refl, ◌∙◌}
+use Rattle.std.proofs.Common.{◌≡◌, ◌≢◌, ℕ, ◌≤◌, ◌<◌, Bool, true, false, [], ◌∷◌, Some, arith, ◌==◌, ap, refl}
 use Rattle.std.proofs.Common.{if◌then◌else◌, nat_le}
 use Rattle.std.proofs.lemmas.Bool.Decides.{nat_tests}
 use Prim.Native.Char.{code}
 use Rattle.fancy_lex.specs.Comments.{closed_before, line_before}
 use Rattle.fancy_lex.specs.LayoutSteps.{comment, escaped, line, between, after_comment_start}
-use Rattle.fancy_lex.specs.Text.{Text, bytes, reach_of}
+use Rattle.fancy_lex.specs.Text.{Text, reach_of}
 use Rattle.fancy_lex.specs.TokenComments.{begins_comment, if_inside, token_comments, token_comments_from}
 
 module _ (e p : ℕ) (t : Text) where

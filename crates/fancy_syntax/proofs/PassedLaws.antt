@@ -28,7 +28,7 @@ use Rattle.fancy_grammar.proofs.OutcomeLemmas.{Holds}
 use Rattle.fancy_grammar.proofs.TriviaAppend.{inside_alone, alternation_alone}
 use Rattle.fancy_syntax.specs.Log.{Log, wrapped, layout_passed, opened, group_opened, body_opened, body_begun}
 use Rattle.fancy_syntax.specs.Log.{branch_begun, branch_ended}
-use Rattle.fancy_syntax.specs.Log.{part_dropped, left_out, atom_opened, atom_ended, atom_closed, leaf_recorded}
+use Rattle.fancy_syntax.specs.Log.{part_dropped, left_out, atom_ended, atom_closed, leaf_recorded}
 use Rattle.fancy_syntax.specs.Log.{branches_opened, pass, text_dropped, inserted, body_dropped, conditional_dropped}
 use Rattle.fancy_syntax.specs.Recording.{counted_recorded, quantifier_dropped, quant_recorded, adjacent_recorded}
 use Rattle.fancy_syntax.specs.Recording.{quants_recorded}
@@ -39,7 +39,7 @@ use Rattle.fancy_syntax.specs.Recording.{atom_of_recorded, inside_recorded, body
 use Rattle.fancy_syntax.specs.declared.grammar.recorded.ConditionPart.{ConditionPart}
 use Rattle.fancy_syntax.specs.declared.grammar.recorded.Open.{Open}
 use Rattle.fancy_syntax.proofs.RecordingLemmas.{put_seam}
-use Rattle.fancy_syntax.proofs.RecordingLaws.{PartBegun, branches_begin, part_begins, body_begins, Kept, PartRecorded, alternation_as}
+use Rattle.fancy_syntax.proofs.RecordingLaws.{PartBegun, branches_begin, body_begins, Kept, PartRecorded, alternation_as}
 use Rattle.fancy_syntax.proofs.RecordingLaws.{inside_as}
 
 -- ---- what adds nothing

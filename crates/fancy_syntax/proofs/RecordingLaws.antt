@@ -44,7 +44,7 @@ use Rattle.fancy_syntax.specs.Log.{branches_opened}
 use Rattle.fancy_grammar.specs.Trivia.{inner_at}
 use Rattle.fancy_syntax.specs.Log.{body_opened, branch_begun, branch_ended, choice_ended, body_split, branch_lacked}
 use Rattle.fancy_syntax.specs.Log.{part_dropped, atom_closed, atom_ended, first_bar, with_bar, others_put}
-use Rattle.fancy_syntax.specs.Log.{atom_opened, pass, layout_passed, group_opened, body_begun, conditional_dropped}
+use Rattle.fancy_syntax.specs.Log.{pass, layout_passed, group_opened, body_begun, conditional_dropped}
 use Rattle.fancy_syntax.specs.Recording.{alternation_recorded, branches_recorded, branch_recorded, pieces_recorded}
 use Rattle.fancy_syntax.specs.Recording.{piece_recorded}
 use Rattle.fancy_syntax.specs.Recording.{atom_recorded, atom_of_recorded, inside_recorded, body_recorded}

@@ -1,4 +1,4 @@
-use Rattle.std.proofs.Common.{◌≡◌, ◌<◌, ◌≤◌, ℕ, List, [], ◌∷◌, Option, Some, None, MatchOption, IfSome, length, chars, sym, subst, arith, ◌∙◌, rules}
+use Rattle.std.proofs.Common.{◌≡◌, ◌<◌, ℕ, List, [], ◌∷◌, Option, Some, None, MatchOption, IfSome, length, chars, sym, subst, arith, ◌∙◌, rules}
 use Rattle.fancy_lex.specs.Comments.{Comment}
 use Rattle.fancy_lex.specs.CommentViews.{comment_of}
 use Rattle.fancy_lex.specs.TokenComments.{if_inside, token_comments}
