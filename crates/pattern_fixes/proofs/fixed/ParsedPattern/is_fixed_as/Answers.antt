@@ -1,4 +1,4 @@
-use Rattle.std.proofs.Common.{ap, map}
+use Rattle.std.proofs.Common.{ap, map, ◌∙◌}
 use Rattle.fancy_lex.specs.Flags.{flags_of}
 use Rattle.fancy_grammar.specs.Trivia.{comment_texts}
 use Rattle.fancy_syntax.specs.InfoViews.{info_of}
@@ -17,7 +17,9 @@ returns-clause-fixed c =
     text_case c.is_fixed.result (flags_of c.args.self.now.flags) text (view old.expr)
     (view c.in-Ok.new.0.expr) (info_of old) (info_of c.in-Ok.new.0) _ (trivia_of c.in-Ok.new.2)
     (comment_texts c.args.self.now.pattern.now (map trivium_of c.args.self.now.trivia.now)) parsed.found
-    parsed_trivia.found ?
+    parsed_trivia.found
+    (c.in_ok-has_same_comments.ensures c.if-not-branch.false
+    ∙ ap (λ xs. comment_texts text (map trivium_of xs)) c.deref.ensures.value)
     (c.has_same_groups.ensures c.if-not-has_same_groups.false)
     (ap (λ f. f.unicode) c.from_bits-unicode.ensures) c.is_fixed.ensures
 
