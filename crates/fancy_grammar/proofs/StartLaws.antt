@@ -217,8 +217,14 @@ condition_shorter s u h = by_paren (strip (code "(") s.rest) refl h
     by_layout : (t : Text) → s.rest ≡ code "(" ∷ t → (k : Skipped) → SkippedSlice t k →
         option_and_then (strip_word (codes "?(")) (rest_of k) ≡ Some u → bytes u < bytes s.rest
     by_layout t e (rest v) i j =
-        omega (arith, ap bytes e, one_bytes (code "(") t, fits i, ap bytes (strip_word_is (codes "?(") v u j),
-        bytes-append (codes "?(") u)
+        omega (
+          arith,
+          ap bytes e,
+          one_bytes (code "(") t,
+          fits i,
+          ap bytes (strip_word_is (codes "?(") v u j),
+          bytes-append (codes "?(") u,
+        )
     by_layout t e (open_comment p) i j = absurd cc
 
     by_paren : (o : Option Text) → strip (code "(") s.rest ≡ o → option_and_then (strip_word (codes "?("))

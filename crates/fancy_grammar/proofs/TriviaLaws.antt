@@ -81,8 +81,13 @@ suffix_ends s c =
         IsSuffix (w ++ codes "+") → W (after_lazy s c lazy u)
     after_operator lazy t u e w cut alone both =
         cond_both (may_be_possessive s.flags c) _ _ W
-        (λ _. choose_both W (strip (code "+") u) _ _ (λ v i. (t, e, cut_slice (w ++ codes "+")
-        (cut ∙ ap (λ z. w ++ z) (strip_is (code "+") u v i) ∙ sym (append_assoc w (codes "+") v)), both))
+        (λ _. choose_both W (strip (code "+") u) _ _ (λ v i. (
+          t,
+          e,
+          cut_slice (w ++ codes "+")
+              (cut ∙ ap (λ z. w ++ z) (strip_is (code "+") u v i) ∙ sym (append_assoc w (codes "+") v)),
+          both,
+        ))
         (t, e, cut_slice w cut, alone)) (λ _. (t, e, cut_slice w cut, alone))
 
 -- there may be any segments, or only separators

@@ -284,20 +284,22 @@ push_after : (start e : ℕ) (l p : List Passed) (x : Passed) → last_end start
     (last_end start (l ++ x ∷ []) ≡ x.trivium.span.end)
     × (filled_up_to start (l ++ x ∷ []) p ≡ with_dropped e x.trivium.span.start (filled_up_to start l p) ++ x ∷ [])
 push_after start e l p x i h =
-    let none : nat_lt (last_end start l) x.trivium.span.start ≡ false = grind (arith, nat_tests) in
-    (last_end_push start l x ∙ ap (λ b. if b then last_end start l else x.trivium.span.end) none,
-    filled_push start l p x ∙ ap (λ b. if b then filled_up_to start l p ++ x ∷ []
-    else with_dropped (last_end start l) x.trivium.span.start (filled_up_to start l p) ++ x ∷ []) none
-    ∙ ap (λ n. with_dropped n x.trivium.span.start (filled_up_to start l p) ++ x ∷ []) i)
+    let none : nat_lt (last_end start l) x.trivium.span.start ≡ false = grind (arith, nat_tests) in (
+      last_end_push start l x ∙ ap (λ b. if b then last_end start l else x.trivium.span.end) none,
+      filled_push start l p x ∙ ap (λ b. if b then filled_up_to start l p ++ x ∷ []
+          else with_dropped (last_end start l) x.trivium.span.start (filled_up_to start l p) ++ x ∷ []) none
+          ∙ ap (λ n. with_dropped n x.trivium.span.start (filled_up_to start l p) ++ x ∷ []) i,
+    )
 
 -- one that begins before e lies in the last one
 push_inner : (start e : ℕ) (l p : List Passed) (x : Passed) → last_end start l ≡ e → e < x.trivium.span.start →
     (last_end start (l ++ x ∷ []) ≡ e) × (filled_up_to start (l ++ x ∷ []) p ≡ filled_up_to start l p ++ x ∷ [])
 push_inner start e l p x i h =
-    let some : nat_lt (last_end start l) x.trivium.span.start ≡ true = grind (arith, nat_tests) in
-    (last_end_push start l x ∙ ap (λ b. if b then last_end start l else x.trivium.span.end) some ∙ i,
-    filled_push start l p x ∙ ap (λ b. if b then filled_up_to start l p ++ x ∷ []
-    else with_dropped (last_end start l) x.trivium.span.start (filled_up_to start l p) ++ x ∷ []) some)
+    let some : nat_lt (last_end start l) x.trivium.span.start ≡ true = grind (arith, nat_tests) in (
+      last_end_push start l x ∙ ap (λ b. if b then last_end start l else x.trivium.span.end) some ∙ i,
+      filled_push start l p x ∙ ap (λ b. if b then filled_up_to start l p ++ x ∷ []
+          else with_dropped (last_end start l) x.trivium.span.start (filled_up_to start l p) ++ x ∷ []) some,
+    )
 
 inside_fits : {t u : Text} {l : List Passed} → InToken t u l → bytes u ≤ bytes t
 inside_fits (no_comment s) = fits s
@@ -308,19 +310,21 @@ inside_fits (a_comment_in {a} {v} k w s e i g n r f) =
 push_inside : {t u : Text} {l : List Passed} (start : ℕ) (before p : List Passed) → InToken t u l →
     last_end start before ≡ reach_of u →
     (last_end start (before ++ l) ≡ reach_of u) × (filled_up_to start (before ++ l) p ≡ filled_up_to start before p ++ l)
-push_inside {l} start before p (no_comment s) i =
-    (ap (last_end start) (append-nil before) ∙ i,
-    ap (λ z. filled_up_to start z p) (append-nil before) ∙ sym (append-nil (filled_up_to start before p)))
+push_inside {l} start before p (no_comment s) i = (
+  ap (last_end start) (append-nil before) ∙ i,
+  ap (λ z. filled_up_to start z p) (append-nil before) ∙ sym (append-nil (filled_up_to start before p)),
+)
 push_inside {u} start before p (a_comment_in {a} {v} {l} k w s e g j z h f) i =
     let x = reached k false a v in
     let earlier : reach_of u < reach_of a = omega (arith, z, ap bytes e, bytes-append w v, inside_fits h) in
     let one = push_inner start (reach_of u) before p x i earlier in
     let others = push_inside start (before ++ x ∷ []) p h one.0 in
-    let same : before ++ (x ∷ l) ≡ (before ++ x ∷ []) ++ l = sym (append_assoc before (x ∷ []) l) in
-    (ap (λ y. last_end start (before ++ y)) f ∙ ap (last_end start) same ∙ others.0,
-    ap (λ y. filled_up_to start (before ++ y) p) f ∙ ap (λ y. filled_up_to start y p) same ∙ others.1
-    ∙ ap (λ y. y ++ l) one.1 ∙ append_assoc (filled_up_to start before p) (x ∷ []) l
-    ∙ ap (λ y. filled_up_to start before p ++ y) (sym f))
+    let same : before ++ (x ∷ l) ≡ (before ++ x ∷ []) ++ l = sym (append_assoc before (x ∷ []) l) in (
+      ap (λ y. last_end start (before ++ y)) f ∙ ap (last_end start) same ∙ others.0,
+      ap (λ y. filled_up_to start (before ++ y) p) f ∙ ap (λ y. filled_up_to start y p) same ∙ others.1
+          ∙ ap (λ y. y ++ l) one.1 ∙ append_assoc (filled_up_to start before p) (x ∷ []) l
+          ∙ ap (λ y. filled_up_to start before p ++ y) (sym f),
+    )
 
 -- up to where the last part ends, at e
 parts_pass : {b : Bool} {t a u : Text} {p q l : List Passed} → Passes b t a p q → Passes false a u [] l →

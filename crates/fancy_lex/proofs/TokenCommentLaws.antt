@@ -103,9 +103,9 @@ module _ (e : ℕ) where
 module _ (end : ℕ) (P : Text → List Comment → Type 0) (none : (t : Text) → P t [])
     (other : (c : ℕ) (t : Text) (l : List Comment) → c ≢ code "#" → end < reach_of (c ∷ t) → P t l → P (c ∷ t) l)
     (block : (u t : Text) (l : List Comment) → IsComment u → end ≤ reach_of t → P t l →
-        P (u ++ t) (closed_before (reach_of (u ++ t)) t ∷ l))
+    P (u ++ t) (closed_before (reach_of (u ++ t)) t ∷ l))
     (lined : (u t : Text) (l : List Comment) → IsLineComment u t → end ≤ reach_of t → P t l →
-        P (u ++ t) (line_before (reach_of (u ++ t)) t ∷ l)) where
+    P (u ++ t) (line_before (reach_of (u ++ t)) t ∷ l)) where
   -- only a comment that ends in the token
   if_it_ends : (t : Text) (x : Comment) (l : List Comment) → (end ≤ x.end → P t (x ∷ l)) → P t (if_inside end x l)
   if_it_ends t x l h =
@@ -121,10 +121,10 @@ module _ (end : ℕ) (P : Text → List Comment → Type 0) (none : (t : Text) �
     opened : (i : Text) → after_comment_start (c ∷ r) ≡ Some i → begins_comment end (c ∷ r) ≡ true →
         end < reach_of (c ∷ r) → P (c ∷ r) (token_comments (c ∷ r) end)
     opened i o b lt = subst (P (c ∷ r)) (sym (opens end (c ∷ r) i lt b o)) (elim (split_comment i) [
-        | inl (j, m, q, f) ↦
+      | inl (j, m, q, f) ↦
           let u = comment_start ++ (j ++ code ")" ∷ []) in
           let whole : c ∷ r ≡ u ++ m =
-              opened_is (c ∷ r) i o ∙ ap (λ z. comment_start ++ z) (f ∙ sym (snoc j m (code ")"))) in
+          opened_is (c ∷ r) i o ∙ ap (λ z. comment_start ++ z) (f ∙ sym (snoc j m (code ")"))) in
           subst (P (c ∷ r))
           (sym (ap (token_comments_from end comment (reach_of (c ∷ r))) f
           ∙ past_inside end q (reach_of (c ∷ r)) (code ")" ∷ m)
@@ -132,16 +132,16 @@ module _ (end : ℕ) (P : Text → List Comment → Type 0) (none : (t : Text) �
           (if_it_ends (c ∷ r) (closed_before (reach_of (c ∷ r)) m) (token_comments m end)
           (λ le. subst (λ z. P z (closed_before (reach_of z) m ∷ token_comments m end)) (sym whole)
           (block u m _ (j, q, refl) le (below m (fewer (code "(") (codes "?#" ++ (j ++ code ")" ∷ [])) m whole)))))
-        | inr (p, q) ↦ subst (P (c ∷ r)) (sym (never_closed end (reach_of (c ∷ r)) p i q)) (none (c ∷ r))
-      ])
+      | inr (p, q) ↦ subst (P (c ∷ r)) (sym (never_closed end (reach_of (c ∷ r)) p i q)) (none (c ∷ r))
+    ])
 
     at_hash : c ≡ code "#" → begins_comment end (c ∷ r) ≡ false → end < reach_of (c ∷ r) →
         P (c ∷ r) (token_comments (c ∷ r) end)
     at_hash i b lt = subst (P (c ∷ r)) (sym (opens_line end (c ∷ r) c r refl lt b i)) (elim (split_line r) [
-        | inl (j, m, q, f) ↦
+      | inl (j, m, q, f) ↦
           let u = code "#" ∷ (j ++ code "\n" ∷ []) in
           let whole : c ∷ r ≡ u ++ m =
-              ap (λ d. d ∷ r) i ∙ ap (λ z. code "#" ∷ z) (f ∙ sym (snoc j m (code "\n"))) in
+          ap (λ d. d ∷ r) i ∙ ap (λ z. code "#" ∷ z) (f ∙ sym (snoc j m (code "\n"))) in
           subst (P (c ∷ r))
           (sym (ap (token_comments_from end line (reach_of (c ∷ r))) f
           ∙ past_line end q (reach_of (c ∷ r)) (code "\n" ∷ m)
@@ -149,7 +149,7 @@ module _ (end : ℕ) (P : Text → List Comment → Type 0) (none : (t : Text) �
           (if_it_ends (c ∷ r) (line_before (reach_of (c ∷ r)) m) (token_comments m end)
           (λ le. subst (λ z. P z (line_before (reach_of z) m ∷ token_comments m end)) (sym whole)
           (lined u m _ (j, q, inl refl) le (below m (fewer (code "#") (j ++ code "\n" ∷ []) m whole)))))
-        | inr q ↦
+      | inr q ↦
           let u = code "#" ∷ r in
           let whole : c ∷ r ≡ u ++ [] = ap (λ d. d ∷ r) i ∙ sym (append-nil u) in
           subst (P (c ∷ r))
@@ -158,7 +158,7 @@ module _ (end : ℕ) (P : Text → List Comment → Type 0) (none : (t : Text) �
           (if_it_ends (c ∷ r) (line_before (reach_of (c ∷ r)) []) []
           (λ le. subst (λ z. P z (line_before (reach_of z) [] ∷ [])) (sym whole)
           (lined u [] _ (r, q, inr (refl, refl)) le (none []))))
-      ])
+    ])
 
     by_start : (b : Bool) → begins_comment end (c ∷ r) ≡ b → end < reach_of (c ∷ r) →
         P (c ∷ r) (token_comments (c ∷ r) end)
@@ -169,10 +169,10 @@ module _ (end : ℕ) (P : Text → List Comment → Type 0) (none : (t : Text) �
         by_open None o =
             absurd (false≢true (sym (ap (λ o. choose o (λ i. nat_le end (reach_of i)) false) o) ∙ b))
     by_start false b lt = elim (cases_eq c (code "#")) [
-        | inl i ↦ at_hash i b lt
-        | inr i ↦ subst (P (c ∷ r)) (sym (after_other end (c ∷ r) c r refl lt b i))
+      | inl i ↦ at_hash i b lt
+      | inr i ↦ subst (P (c ∷ r)) (sym (after_other end (c ∷ r) c r refl lt b i))
           (other c r _ i lt (below r (omega arith)))
-      ]
+    ]
 
     first_step : (b : Bool) → nat_le (reach_of (c ∷ r)) end ≡ b → P (c ∷ r) (token_comments (c ∷ r) end)
     first_step true i = subst (P (c ∷ r)) (sym (at_end end (c ∷ r) (grind (arith, nat_tests)))) (none (c ∷ r))
@@ -190,7 +190,7 @@ module _ (end : ℕ) (P : Text → List Comment → Type 0) (none : (t : Text) �
 module _ (f : Flags) (end : ℕ) (P : Text → List Comment → Type 0) (none : (t : Text) → P t [])
     (other : (c : ℕ) (t : Text) (l : List Comment) → end < reach_of (c ∷ t) → P t l → P (c ∷ t) l)
     (escaped : (r u : Text) (l : List Comment) → EndsWith r u → end < reach_of (code "\\" ∷ r) → end ≤ reach_of u →
-        P u l → P (code "\\" ∷ r) (escape_comments r (reach_of u) ++ l)) where
+    P u l → P (code "\\" ∷ r) (escape_comments r (reach_of u) ++ l)) where
   -- at the first character, if P holds of each shorter text
   module _ (c : ℕ) (r : Text) (below : (m : Text) → bytes m ≤ bytes r → P m (class_comments f m end)) where
     by_escape : c ≡ code "\\" → end < reach_of (c ∷ r) → (o : Reading Escape) → escape f true r ≡ o →
@@ -213,11 +213,11 @@ module _ (f : Flags) (end : ℕ) (P : Text → List Comment → Type 0) (none : 
     first_turn : (b : Bool) → nat_le (reach_of (c ∷ r)) end ≡ b → P (c ∷ r) (class_comments f (c ∷ r) end)
     first_turn true i = subst (P (c ∷ r)) (sym (class.at_end f end (c ∷ r) (grind (arith, nat_tests)))) (none (c ∷ r))
     first_turn false i = elim (cases_eq c (code "\\")) [
-        | inl e ↦ by_escape e (grind (arith, nat_tests)) (escape f true r) refl
-        | inr e ↦
+      | inl e ↦ by_escape e (grind (arith, nat_tests)) (escape f true r) refl
+      | inr e ↦
           let lt : end < reach_of (c ∷ r) = grind (arith, nat_tests) in
           subst (P (c ∷ r)) (sym (class.after_plain f end (c ∷ r) c r refl lt e)) (other c r _ lt (below r (omega arith)))
-      ]
+    ]
 
   by_walk : (k : ℕ) (t : Text) → bytes t ≤ k → P t (class_comments f t end)
   by_walk k [] h = subst (P []) (sym (class.at_text_end f end [] refl)) (none [])

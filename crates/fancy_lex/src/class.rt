@@ -201,12 +201,7 @@ pub fn class(alloc: Global, text: &str, flags: Flags) -> Result<(String, &str), 
 
 /// The next escape in a class that was parsed, after its backslash, and the text after it. `text` is the rest of the class,
 /// which ends at the reach.
-pub fn next_escape(
-    alloc: Global,
-    text: &str,
-    end: Reach,
-    flags: Flags,
-) -> Option<(&str, &str)>
+pub fn next_escape(alloc: Global, text: &str, end: Reach, flags: Flags) -> Option<(&str, &str)>
     ensures value { MatchOption result (class_comments flags (chars text.now) end ≡ [])
         (λ p. class_comments flags (chars text.now) end ≡
         escape_comments (chars p.0.now) (reach_of (chars p.1.now)) ++ class_comments flags (chars p.1.now) end) }

@@ -44,8 +44,10 @@ filled_inner xs i d from end l n lt earlier added =
     let others = map recorded_part (drop (i + 1) xs) in
     let inner : nat_lt from x.start ≡ true = grind (arith, nat_tests) in
     ap (λ ys. text_filled from end (map recorded_part ys) l) (drop_more xs i d lt)
-    ∙ ap (λ b. record l { passed = if b then filled from end others (l.passed ++ recorded_part x ∷ [])
-    else filled x.end end others (with_dropped from x.start l.passed ++ recorded_part x ∷ []) }) inner
+    ∙ ap (λ b. record l {
+      passed = if b then filled from end others (l.passed ++ recorded_part x ∷ [])
+          else filled x.end end others (with_dropped from x.start l.passed ++ recorded_part x ∷ []);
+    }) inner
     ∙ ap (text_filled from end others) (sym added)
 
 -- the next part is added after the text before it
@@ -58,8 +60,10 @@ filled_next xs i d from end l m n lt later before added =
     let others = map recorded_part (drop (i + 1) xs) in
     let none : nat_lt from x.start ≡ false = grind (arith, nat_tests) in
     ap (λ ys. text_filled from end (map recorded_part ys) l) (drop_more xs i d lt)
-    ∙ ap (λ b. record l { passed = if b then filled from end others (l.passed ++ recorded_part x ∷ [])
-    else filled x.end end others (with_dropped from x.start l.passed ++ recorded_part x ∷ []) }) none
+    ∙ ap (λ b. record l {
+      passed = if b then filled from end others (l.passed ++ recorded_part x ∷ [])
+          else filled x.end end others (with_dropped from x.start l.passed ++ recorded_part x ∷ []);
+    }) none
     ∙ ap (text_filled x.end end others) (sym (added ∙ ap (pass (recorded_part x ∷ [])) before))
 
 -- after the last part, the text up to the end

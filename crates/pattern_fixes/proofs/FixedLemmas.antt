@@ -131,5 +131,11 @@ pub text_case : {E : Type 0} (o : Result Bool E) (f : Flags) (text : List ℕ) (
     cs ≡ comment_texts text l → n ≡ m → u ≡ f.unicode → IfOk o (λ b. IsTrue b → IsFixed u old new) →
     IfOk o (λ b. IsTrue b → IsFixedText f text old m cs)
 text_case o f text old new m n u l cs tree trivia kept same is h =
-    if_true o (λ x. (new, l, subst (IsTreeOf f (chars text) new) same tree, trivia, subst (λ b. IsFixed b old new) is x,
-    kept)) h
+    if_true o (λ x. (
+      new,
+      l,
+      subst (IsTreeOf f (chars text) new) same tree,
+      trivia,
+      subst (λ b. IsFixed b old new) is x,
+      kept,
+    )) h

@@ -9,9 +9,9 @@ ghost use Rattle.pattern_fixes.specs.Edits as spec;
 ghost use Rattle.pattern_fixes.specs.Fixed.{IsFixedText};
 ghost use Rattle.pattern_fixes.specs.KeepsMatches.{KeepsMatches};
 
+use crate::comments::has_same_comments;
 use crate::edit::{Edit, FixableReport, edit_of};
 use crate::edits::{apart, with_edit, with_edits};
-use crate::comments::has_same_comments;
 use crate::groups::has_same_groups;
 use crate::tree::is_fixed;
 use fancy_lex::flags::Flags;

@@ -13,10 +13,7 @@ pub(crate) struct Comment {
 }
 
 /// The comments among what no node has, in the order of the text.
-pub(crate) fn all_comments(
-    alloc: Global,
-    trivia: &[Trivium],
-) -> Result<Vec<Comment>, AllocError> {
+pub(crate) fn all_comments(alloc: Global, trivia: &[Trivium]) -> Result<Vec<Comment>, AllocError> {
     let mut comments = Vec::new(alloc);
     for Trivium { span, kind } in trivia {
         if kind.is_comment() {

@@ -68,10 +68,7 @@ fn push_nodes(
 
 /// The nodes of the tree of a pattern in preorder. A group around the whole pattern stays if one in a repeat would, since
 /// programs put patterns together and repeat them.
-pub(crate) fn nodes_of(
-    alloc: Global,
-    parsed: &SpannedTree,
-) -> Result<Vec<Node>, AllocError> {
+pub(crate) fn nodes_of(alloc: Global, parsed: &SpannedTree) -> Result<Vec<Node>, AllocError> {
     let mut nodes = Vec::with_capacity(alloc, parsed.spans.len())?;
     let root = parsed.root();
     let needs_group_here = needs_group_in_repeat(root.expr());

@@ -126,12 +126,7 @@ impl Spanning for NoSpans {
     }
 
     #[inline(always)]
-    fn pass_start(
-        &mut self,
-        _alloc: Global,
-        _start: State,
-        _end: Reach,
-    ) -> Result<(), AllocError> {
+    fn pass_start(&mut self, _alloc: Global, _start: State, _end: Reach) -> Result<(), AllocError> {
         Ok(())
     }
 
