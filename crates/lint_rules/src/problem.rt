@@ -102,8 +102,9 @@ fn rule_of_class(problem: ClassProblem) -> Rule {
         ClassProblem::Invalid(_) => Rule::InvalidClass,
         ClassProblem::Empty => Rule::EmptyClass,
         ClassProblem::DuplicateCharacters => Rule::DuplicateCharacters,
-        ClassProblem::SuspiciousClass(_) => Rule::SuspiciousClass,
+        ClassProblem::SuspiciousClass(_) | ClassProblem::BarBetweenEscapes => Rule::SuspiciousClass,
         ClassProblem::SuspiciousRange { .. } => Rule::SuspiciousRange,
+        ClassProblem::HyphenRange => Rule::HyphenRange,
         ClassProblem::SubsumedBranch { .. } => Rule::SubsumedBranch,
     }
 }
@@ -185,7 +186,9 @@ impl<'a> Found<'a> {
             | ClassProblem::Empty
             | ClassProblem::DuplicateCharacters
             | ClassProblem::SuspiciousClass(_)
-            | ClassProblem::SuspiciousRange { .. } => None,
+            | ClassProblem::SuspiciousRange { .. }
+            | ClassProblem::BarBetweenEscapes
+            | ClassProblem::HyphenRange => None,
         };
         Found {
             span: finding.span,
@@ -224,9 +227,15 @@ impl<'a> Found<'a> {
                 None => rule,
             },
             Problem::Class(ClassProblem::SuspiciousClass(look)) => Help::Class(look),
+            Problem::Class(ClassProblem::BarBetweenEscapes) => Help::Class(ClassLook::Alternatives),
             Problem::DialectDifference { difference } => Help::Dialect(difference),
             _ => rule,
         }
+    }
+
+    /// Whether it is wrong with a reference that is the octal code of a character in other dialects.
+    pub fn is_octal(&self, pattern: &str) -> bool {
+        matches!(self.help(pattern), Help::Octal(_))
     }
 
     /// The message of its report, in a pattern in which it is found.

@@ -13,6 +13,8 @@ pub(crate) struct Node {
     pub(crate) ignores_case: bool,
     /// Whether a flag group around it, and around nothing else, cannot be left out.
     pub(crate) needs_group: bool,
+    /// Whether it is one of several branches.
+    pub(crate) is_branch: bool,
 }
 
 /// Whether a group around the node cannot be left out where it is repeated.
@@ -46,11 +48,17 @@ fn needs_group(node: &Expr, child: &Expr) -> bool {
     }
 }
 
+/// Whether the children of the node are branches.
+fn has_branches(node: &Expr) -> bool {
+    matches!(node, Expr::Alt(_))
+}
+
 /// Adds the node and those below it.
 fn push_nodes(
     nodes: &mut Vec<Node>,
     node: SpannedNode<'_>,
     needs_group_here: bool,
+    is_branch: bool,
 ) -> Result<(), AllocError> {
     let expr = node.expr();
     let is_empty = matches!(expr, Expr::Empty);
@@ -59,9 +67,15 @@ fn push_nodes(
         is_leaf: expr.is_leaf_node() && !is_empty,
         ignores_case: matches!(expr, Expr::Literal { casei: true, .. }),
         needs_group: needs_group_here || is_empty,
+        is_branch,
     })?;
     for child in node.children() {
-        push_nodes(nodes, child, needs_group(expr, child.expr()))?;
+        push_nodes(
+            nodes,
+            child,
+            needs_group(expr, child.expr()),
+            has_branches(expr),
+        )?;
     }
     Ok(())
 }
@@ -72,6 +86,6 @@ pub(crate) fn nodes_of(alloc: Global, parsed: &SpannedTree) -> Result<Vec<Node>,
     let mut nodes = Vec::with_capacity(alloc, parsed.spans.len())?;
     let root = parsed.root();
     let needs_group_here = needs_group_in_repeat(root.expr());
-    push_nodes(&mut nodes, root, needs_group_here)?;
+    push_nodes(&mut nodes, root, needs_group_here, false)?;
     Ok(nodes)
 }

@@ -2,6 +2,7 @@
 use crate::subcommands::FileVerb;
 use clap::ArgMatches;
 use clap::parser::ValueSource;
+use dialects::dialect::Dialect;
 use pattern_files::form::FileFormat;
 use pattern_files::lines::Ending;
 use pattern_files::sources::STANDARD_INPUT;
@@ -168,6 +169,7 @@ pub(crate) fn choices_of<'m>(
         },
         format: format_of(matches),
         is_verbose: matches.get_flag("verbose"),
+        dialect: matches.get_str("dialect").and_then(Dialect::named),
         levels,
     }
 }

@@ -1,6 +1,7 @@
 //! The options of the subcommands: a row for each, in the order of the help.
 use crate::option::{FLAG, OptionRow, Takes};
 use clap::builder::ValueParser;
+use dialects::dialect::DIALECT_NAMES;
 use pattern_files::sources::STANDARD_INPUT;
 use pattern_reports::format::FORMAT_NAMES;
 
@@ -215,7 +216,7 @@ box that is wider by itself stays so",
     },
 ];
 
-pub(crate) static LINT_OPTIONS: [OptionRow; 10] = [
+pub(crate) static LINT_OPTIONS: [OptionRow; 11] = [
     OptionRow {
         id: "allow",
         takes: Takes::Rules,
@@ -232,6 +233,14 @@ pub(crate) static LINT_OPTIONS: [OptionRow; 10] = [
         id: "deny",
         takes: Takes::Rules,
         help: "Makes the reports of rules errors",
+        ..FLAG
+    },
+    OptionRow {
+        id: "dialect",
+        takes: Takes::Named("NAME", ValueParser::Names(DIALECT_NAMES)),
+        help: "The dialect of the patterns: java, javascript, oniguruma, pcre, perl,
+python or ruby. Those that it reads otherwise, or that are invalid
+here, are passed over, and counted at the end",
         ..FLAG
     },
     OptionRow {
@@ -323,8 +332,8 @@ after # becomes (?#..), and (?x) at the beginning goes",
     },
     OptionRow {
         id: "canonical",
-        help: "Writes the canonical text of each pattern's tree: without ignored
-whitespace, and in one spelling",
+        help: "Writes each tree's text: without ignored whitespace, in one spelling
+except for classes and references",
         ..FLAG
     },
     OptionRow {

@@ -1,2 +1,3 @@
 mod BranchLemmas
 mod NodeLemmas
+mod SilencedLemmas

@@ -49,16 +49,7 @@ ast_has_group n p = of_ast has_group false (λ r q. refl) (λ name q t. refl) n 
 pub ast_is_unresolved : (total : ℕ) (n : ast.AstNode) (p : ℕ) → is_unresolved_call total (view_ast n p) ≡ true
 ast_is_unresolved total n p = of_ast (is_unresolved_call total) true (λ r q. refl) (λ name q t. refl) n p
 
-pub ruleset node_steps = (
-  view_AstNode,
-  ast_only_empty,
-  ast_can_be_empty,
-  ast_everywhere,
-  ast_has_group,
-  ast_is_unresolved,
-)
-
--- an absent form calls nothing
+-- an absent form is no call
 absent_cases : (total : ℕ) (v : Absent-F Absent ast.AstNode Expr) → is_unresolved_call total
     (absent_step (map-Absent Absent ast.AstNode Expr Tree (ℕ → Tree) Tree view_absent view_ast view v)) ≡ false
 absent_cases total (Absent-F.Expression x y) = refl
@@ -66,23 +57,17 @@ absent_cases total (Absent-F.Repeater x) = refl
 absent_cases total (Absent-F.Stopper x) = refl
 absent_cases total Absent-F.Clear = refl
 
-absent_calls : (total : ℕ) (a : Absent) → is_unresolved_call total (view_absent a) ≡ false
+pub absent_calls : (total : ℕ) (a : Absent) → is_unresolved_call total (view_absent a) ≡ false
 absent_calls total a =
     ap (is_unresolved_call total) (fold_out-Absent Tree (ℕ → Tree) Tree absent_step ast_step expr_step a)
     ∙ absent_cases total (out-Absent a)
 
-calls_nothing : (total : ℕ) (v : Expr-F Absent ast.AstNode Expr) → ((n : _) → roll-Expr v ≡ SubroutineCall n → ⊥) →
-    ((n p : _) → roll-Expr v ≡ AstNode n p → ⊥) → is_unresolved_call total
-    (expr_step (map-Expr Absent ast.AstNode Expr Tree (ℕ → Tree) Tree view_absent view_ast view v)) ≡ false
-calls_nothing total (Expr-F.Expr::SubroutineCall n) h k = absurd (h n (variant.rolls-SubroutineCall n))
-calls_nothing total (Expr-F.AstNode n p) h k = absurd (k n p (variant.rolls-AstNode n p))
-calls_nothing total (Expr-F.Absent a) h k = absent_calls total a
-calls_nothing total v h k = refl
-
--- what is no call, and not as it was read, is no call that refers to no group
-pub not_call : (total : ℕ) (e : Expr) → ((n : _) → e ≡ SubroutineCall n → ⊥) → ((n p : _) → e ≡ AstNode n p → ⊥) →
-    is_unresolved_call total (view e) ≡ false
-not_call total e h k =
-    ap (is_unresolved_call total) (fold_out-Expr Tree (ℕ → Tree) Tree absent_step ast_step expr_step e)
-    ∙ calls_nothing total (out-Expr e) (λ n i. h n (sym (roll-out-Expr e) ∙ i))
-    (λ n p i. k n p (sym (roll-out-Expr e) ∙ i))
+pub ruleset node_steps = (
+  view_AstNode,
+  ast_only_empty,
+  ast_can_be_empty,
+  ast_everywhere,
+  ast_has_group,
+  ast_is_unresolved,
+  absent_calls,
+)

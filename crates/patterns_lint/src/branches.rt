@@ -23,16 +23,17 @@ use std::collections::HashMap;
 fn covers(earlier: &Expr, later: &Expr) -> bool
     ensures { result ≡ spec.covers (view earlier.now) (view later.now) }
 {
-    match (earlier, later) {
-        (
-            Expr::Literal { val, casei },
-            Expr::Literal {
-                val: other,
-                casei: is_other_casei,
-            },
-        ) => is_same_text(val.as_str(), other.as_str()) && (*casei || !*is_other_casei),
-        _ => false,
-    }
+    let Expr::Literal { val, casei } = earlier else {
+        return false;
+    };
+    let Expr::Literal {
+        val: other,
+        casei: is_other_casei,
+    } = later
+    else {
+        return false;
+    };
+    is_same_text(val.as_str(), other.as_str()) && (*casei || !*is_other_casei)
 }
 
 /// Whether the trees begin with ones that the others cover one by one.
@@ -107,12 +108,13 @@ fn texts_differ(one: &str, other: &str) -> bool
 fn is_boundary(one: &Expr, other: &Expr) -> bool
     ensures { result ≡ spec.is_boundary (view one.now) (view other.now) }
 {
-    match (one, other) {
-        (Expr::Literal { val, .. }, Expr::Literal { val: next, .. }) => {
-            texts_differ(val.as_str(), next.as_str())
-        }
-        _ => false,
-    }
+    let Expr::Literal { val, .. } = one else {
+        return false;
+    };
+    let Expr::Literal { val: next, .. } = other else {
+        return false;
+    };
+    texts_differ(val.as_str(), next.as_str())
 }
 
 /// Whether a word boundary is before the piece of this index.
@@ -169,18 +171,19 @@ fn empty_branch_problem(is_first: bool, is_last: bool) -> Option<Problem<'static
 fn differ_in_count(one: &Expr, other: &Expr) -> bool
     ensures { IsTrue result ↔ spec.DifferInCount (view one.now) (view other.now) }
 {
-    match (one, other) {
-        (
-            Expr::Repeat { child, lo, hi, .. },
-            Expr::Repeat {
-                child: operand,
-                lo: low,
-                hi: high,
-                ..
-            },
-        ) => is_equal(child, operand) && !(*lo == *low && *hi == *high),
-        _ => false,
-    }
+    let Expr::Repeat { child, lo, hi, .. } = one else {
+        return false;
+    };
+    let Expr::Repeat {
+        child: operand,
+        lo: low,
+        hi: high,
+        ..
+    } = other
+    else {
+        return false;
+    };
+    is_equal(child, operand) && !(*lo == *low && *hi == *high)
 }
 
 /// Whether a branch beside the one of this index differs from it in the count alone.
@@ -246,21 +249,20 @@ pub(crate) fn is_character_text(text: &str, c: char) -> bool
 fn is_backslash(node: &Expr) -> bool
     ensures { result ≡ spec.is_backslash (view node.now) }
 {
-    match node {
-        Expr::Literal { val, .. } => is_character_text(val.as_str(), '\\'),
-        _ => false,
-    }
+    let Expr::Literal { val, .. } = node else {
+        return false;
+    };
+    is_character_text(val.as_str(), '\\')
 }
 
 /// Whether the node matches the character, as far as it is that literal or a dot.
 fn may_be(node: &Expr, c: char) -> bool
     ensures { result ≡ spec.may_be (view node.now) c }
 {
-    match node {
-        Expr::Literal { val, .. } => is_character_text(val.as_str(), c),
-        Expr::Any { .. } => true,
-        _ => false,
+    if let Expr::Literal { val, .. } = node {
+        return is_character_text(val.as_str(), c);
     }
+    matches!(node, Expr::Any { .. })
 }
 
 /// Whether the branch is a backslash and what may be this character.

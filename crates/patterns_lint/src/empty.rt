@@ -217,12 +217,10 @@ fn any_matches_everywhere(trees: &[Expr]) -> bool
 pub(crate) fn is_useless_look_around(tree: &Expr) -> bool
     ensures { result ≡ spec.is_useless_look_around (view tree.now) }
 {
-    match tree {
-        Expr::LookAround(child, _) => {
-            matches_everywhere(child) && !has_group(child) && !is_empty(child)
-        }
-        _ => false,
-    }
+    let Expr::LookAround(child, _) = tree else {
+        return false;
+    };
+    matches_everywhere(child) && !has_group(child) && !is_empty(child)
 }
 
 /// Whether it is the empty pattern.

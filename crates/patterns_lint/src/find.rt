@@ -10,8 +10,9 @@ use crate::scan::{Around, PatternInfo, scan};
 use crate::slow::SlowParts;
 use crate::walk::Walk;
 use backtracking::attack::Attack;
-use class_rules::class_problem::{ClassFinding, ClassProblem};
+use class_rules::class_problem::{ClassFinding, ClassLook, ClassProblem};
 use class_rules::class_walk::class_findings;
+use dialects::dialect::Dialect;
 use dialects::spelling::{DifferentSpelling, spellings};
 use fancy_syntax::spanned::{SpannedNode, SpannedTree};
 use lint_rules::attack_text::AttackText;
@@ -43,6 +44,28 @@ fn of_class<'a>(finding: ClassFinding, pattern: &str, nodes: &[SpannedNode<'_>])
         found.problem = Problem::CharactersInEscape { escape };
     }
     found
+}
+
+/// What is wrong with a class whose backslashes are doubled.
+static DOUBLED: ClassProblem = ClassProblem::SuspiciousClass(ClassLook::DoubledBackslashes);
+
+/// Adds what is wrong with classes and with branches of one character; of classes whose backslashes are doubled the first.
+fn add_of_classes(
+    found: &mut Vec<Found<'_>>,
+    findings: &[ClassFinding],
+    pattern: &str,
+    nodes: &[SpannedNode<'_>],
+) -> Result<(), AllocError> {
+    let mut has_doubled = false;
+    for finding in findings {
+        let is_doubled = finding.problem == DOUBLED;
+        if is_doubled && has_doubled {
+            continue;
+        }
+        has_doubled = has_doubled || is_doubled;
+        found.push(of_class(*finding, pattern, nodes))?;
+    }
+    Ok(())
 }
 
 /// Adds what other dialects read otherwise.
@@ -123,9 +146,8 @@ fn problems<'a>(
     let mut found = walk.found;
     found.extend_from_slice(&ways.walk.found)?;
     let nodes = nodes_of(alloc, parsed)?;
-    for finding in class_findings(alloc, parsed.root(), pattern, &mut known.classes)? {
-        found.push(of_class(finding, pattern, &nodes))?;
-    }
+    let findings = class_findings(alloc, parsed.root(), pattern, &mut known.classes)?;
+    add_of_classes(&mut found, &findings, pattern, &nodes)?;
     found.extend_from_slice(&useless_flags(alloc, pattern, &parsed.trivia)?)?;
     add_differences(&mut found, &spellings(alloc, pattern, &nodes)?)?;
     if let Some(rule) = grammar {
@@ -139,7 +161,31 @@ fn problems<'a>(
     Ok(found)
 }
 
-/// The same of the rules that are not silent.
+/// Whether the dialect reads otherwise what is reported.
+fn is_read_otherwise(found: &Found<'_>, pattern: &str, dialect: Dialect) -> bool {
+    if let Problem::DialectDifference { difference } = found.problem {
+        return difference.is_of(dialect);
+    }
+    found.is_octal(pattern)
+}
+
+/// Leaves the reports that hold in the dialect, and returns whether it reads the pattern otherwise: then only those that say
+/// so are left.
+fn keep_in_dialect(found: &mut Vec<Found<'_>>, pattern: &str, dialect: Dialect) -> bool {
+    let is_other = found
+        .iter()
+        .any(|one| is_read_otherwise(one, pattern, dialect));
+    found.retain(|one| {
+        if let Problem::DialectDifference { difference } = one.problem {
+            difference.is_of(dialect)
+        } else {
+            !is_other
+        }
+    });
+    is_other
+}
+
+/// The same of the rules that are not silent. None if the dialect of the pattern reads it otherwise, and no report says so.
 pub fn reported<'a>(
     subject: Subject<'_>,
     parsed: &'a SpannedTree,
@@ -147,8 +193,15 @@ pub fn reported<'a>(
     chosen: &Chosen,
     known: &mut Known,
     slow: &'a SlowParts,
-) -> Result<Vec<Found<'a>>, AllocError> {
+) -> Result<Option<Vec<Found<'a>>>, AllocError> {
     let mut found = problems(subject, parsed, grammar, known, slow)?;
+    let is_other = match chosen.dialect {
+        Some(dialect) => keep_in_dialect(&mut found, subject.pattern, dialect),
+        None => false,
+    };
     found.retain(|one| chosen.level(one.problem.rule()) != Level::Allow);
-    Ok(found)
+    if is_other && found.is_empty() {
+        return Ok(None);
+    }
+    Ok(Some(found))
 }

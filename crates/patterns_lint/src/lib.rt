@@ -14,6 +14,7 @@ mod neighbours;
 mod quantifiers;
 mod references;
 mod scan;
+pub mod silenced;
 pub mod slow;
 mod targets;
 mod walk;

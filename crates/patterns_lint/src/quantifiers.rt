@@ -25,12 +25,10 @@ pub(crate) struct Surroundings {
 fn is_quantified_assertion(tree: &Expr) -> bool
     ensures { result ≡ spec.is_quantified_assertion (view tree.now) }
 {
-    match tree {
-        Expr::Repeat { child, hi, .. } => {
-            matches_only_empty(child) && !(*hi == 1 && has_group(child))
-        }
-        _ => false,
-    }
+    let Expr::Repeat { child, hi, .. } = tree else {
+        return false;
+    };
+    matches_only_empty(child) && !(*hi == 1 && has_group(child))
 }
 
 /// Whether it repeats without a limit what can match the empty text, and more. A possessive one is no such case: it tries
@@ -38,62 +36,56 @@ fn is_quantified_assertion(tree: &Expr) -> bool
 fn is_empty_loop(tree: &Expr, around: Surroundings) -> bool
     ensures { result ≡ spec.is_empty_loop around (view tree.now) }
 {
-    match tree {
-        Expr::Repeat { child, hi, .. } => {
-            *hi == usize::MAX
-                && can_match_empty(child)
-                && !matches_only_empty(child)
-                && !around.is_atomic
-        }
-        _ => false,
-    }
+    let Expr::Repeat { child, hi, .. } = tree else {
+        return false;
+    };
+    *hi == usize::MAX && can_match_empty(child) && !matches_only_empty(child) && !around.is_atomic
 }
 
 /// Whether it is lazy, and nothing follows it, so that it repeats only its minimum.
 fn is_lazy_at_end(tree: &Expr, around: Surroundings) -> bool
     ensures { result ≡ spec.is_lazy_at_end around (view tree.now) }
 {
-    match tree {
-        Expr::Repeat { lo, hi, greedy, .. } => {
-            !*greedy && *lo < *hi && around.is_at_end && !around.has_calls
-        }
-        _ => false,
-    }
+    let Expr::Repeat { lo, hi, greedy, .. } = tree else {
+        return false;
+    };
+    !*greedy && *lo < *hi && around.is_at_end && !around.has_calls
 }
 
 /// Whether its minimum is above its maximum.
 fn is_invalid_quantifier(tree: &Expr) -> bool
     ensures { result ≡ spec.is_invalid_quantifier (view tree.now) }
 {
-    match tree {
-        Expr::Repeat { lo, hi, .. } => *hi < *lo,
-        _ => false,
-    }
+    let Expr::Repeat { lo, hi, .. } = tree else {
+        return false;
+    };
+    *hi < *lo
 }
 
 /// Whether it repeats exactly once. Where a branch beside it differs from it in the count alone, it is no mistake.
 fn is_useless_quantifier(tree: &Expr, around: Surroundings) -> bool
     ensures { result ≡ spec.is_useless_quantifier around (view tree.now) }
 {
-    match tree {
-        Expr::Repeat { lo: 1, hi: 1, .. } => !around.has_count_twin,
-        _ => false,
-    }
+    let Expr::Repeat { lo: 1, hi: 1, .. } = tree else {
+        return false;
+    };
+    !around.has_count_twin
 }
 
 /// Whether it repeats zero times. Where there are calls, one on a group is none: it may define the group for them.
 fn is_zero_quantifier(tree: &Expr, around: Surroundings) -> bool
     ensures { result ≡ spec.is_zero_quantifier around (view tree.now) }
 {
-    match tree {
-        Expr::Repeat {
-            child,
-            lo: 0,
-            hi: 0,
-            ..
-        } => !(around.has_calls && has_group(child)),
-        _ => false,
-    }
+    let Expr::Repeat {
+        child,
+        lo: 0,
+        hi: 0,
+        ..
+    } = tree
+    else {
+        return false;
+    };
+    !(around.has_calls && has_group(child))
 }
 
 /// The rule that reports the node's quantifier.

@@ -25,6 +25,8 @@ pub(crate) struct Tally {
     pub(crate) fixable: u64,
     /// Those that are not as the verb asks, are accepted, and in which a denied rule reports.
     pub(crate) denied: u64,
+    /// Those that their dialect reads otherwise, or that are invalid and of another dialect.
+    passed_over: u64,
     errors: u64,
     pub(crate) warnings: u64,
 }
@@ -44,6 +46,7 @@ impl Tally {
             formatted: 0,
             fixable: 0,
             denied: 0,
+            passed_over: 0,
             errors: 0,
             warnings: 0,
         }
@@ -83,6 +86,11 @@ impl Tally {
         if outcome == Outcome::Refused {
             self.failed = self.failed.saturating_add(1);
         }
+    }
+
+    /// Counts a pattern that is passed over.
+    pub(crate) fn pass_over(&mut self) {
+        self.passed_over = self.passed_over.saturating_add(1);
     }
 
     /// Counts a report of a rule that has the level.
@@ -164,6 +172,13 @@ impl fmt::Display for Tally {
         }
         if self.warnings > 0 {
             write!(f, ", {}", Counted(self.warnings, "warning"))?;
+        }
+        if self.passed_over > 0 {
+            let count = Thousands(self.passed_over);
+            write!(
+                f,
+                ", {count} passed over: invalid here, or read otherwise in their dialect"
+            )?;
         }
         Ok(())
     }
