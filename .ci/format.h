@@ -68,7 +68,9 @@ static char *comments_of(const char *pattern, size_t length, uint32_t flags, siz
     fancy_trivia(pattern, length, flags, trivia, FANCY_MAX_TRIVIA(length), &count);
     for (size_t i = 0; i < count; i++) {
         size_t bytes = trivia[i].stop - trivia[i].start;
-        bool is_comment = trivia[i].kind == FANCY_TRIVIUM_LINE_COMMENT || (trivia[i].kind == FANCY_TRIVIUM_COMMENT && bytes > 4);
+        bool is_line = trivia[i].kind == FANCY_TRIVIUM_LINE_COMMENT || trivia[i].kind == FANCY_TRIVIUM_INNER_LINE_COMMENT;
+        bool is_block = trivia[i].kind == FANCY_TRIVIUM_COMMENT || trivia[i].kind == FANCY_TRIVIUM_INNER_COMMENT;
+        bool is_comment = is_line || (is_block && bytes > 4);
         if (!is_comment) continue;
         memcpy(comments + *size, pattern + trivia[i].start, bytes);
         *size += bytes;

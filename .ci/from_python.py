@@ -369,6 +369,8 @@ def are_trivia_right():
         and trivia("é(?#é)*") == [("COMMENT", (1, 6), (2, 8), *none)]
         and trivia("é(?#é)*".encode()) == [("COMMENT", (2, 8), (2, 8), *none)]
         and trivia("a*(?#b)c") == [("COMMENT", (2, 7), (2, 7), *none)]
+        and trivia("é{1(?#c)}") == [("INNER_COMMENT", (3, 8), (4, 9), *none)]
+        and trivia("((?#é)a)") == [("INNER_COMMENT", (1, 6), (1, 7), *none)]
         and trivia("(a(?i)b)c") == [("INLINE_FLAGS", (2, 6), (2, 6), "u", "iu")]
         and trivia("(?i:a)b") == [("OPENING", (0, 4), (0, 4), "u", "iu"), ("CLOSING", (5, 6), (5, 6), *none)]
         and trivia("(a)(?<n>b)", fancy.UNICODE | fancy.IGNORE_NUMBERED_GROUPS_WHEN_NAMED_GROUPS_EXIST) == [
@@ -406,7 +408,8 @@ def is_kept_by_a_style(pattern, flags):
 
 def comments_of(pattern, flags, style):
     """The comments that are not empty, for the style `COMPACT` without their delimiters and whitespace at their ends."""
-    kinds = fancy.TriviumKind.COMMENT, fancy.TriviumKind.LINE_COMMENT
+    kind = fancy.TriviumKind
+    kinds = kind.COMMENT, kind.LINE_COMMENT, kind.INNER_COMMENT, kind.INNER_LINE_COMMENT
     texts = [pattern[slice(*it.span)] for it in fancy.trivia(pattern, flags) if it.kind in kinds]
     if style == fancy.Style.COMPACT:
         return [it for it in ((text[3:-1] if text[0] == "(" else text[1:]).rstrip() for text in texts) if it]

@@ -162,13 +162,17 @@ enum fancy_target { FANCY_TARGET_BY_NUMBER = 1, FANCY_TARGET_BY_NAME = 2, FANCY_
 
 /* Kinds of what no node of a tree has. */
 enum fancy_trivium_kind {
-    FANCY_TRIVIUM_COMMENT = 1,      /* (?#..) */
-    FANCY_TRIVIUM_LINE_COMMENT = 2, /* from # through its line feed, or through the end of the pattern */
-    FANCY_TRIVIUM_INLINE_FLAGS = 3, /* inline flags, as (?i): flags_before, flags_after */
-    FANCY_TRIVIUM_OPENING = 4,      /* of a flag group, as (?: or (?i: : flags_before, flags_after */
-    FANCY_TRIVIUM_CLOSING = 5,      /* the closing parenthesis of such a group */
-    FANCY_TRIVIUM_DROPPED = 6       /* what leaves nothing in the tree: counts or operators of a quantifier without effect in
-                                       Oniguruma mode; of a conditional without branches, as (?(1)|), all but the condition */
+    FANCY_TRIVIUM_COMMENT = 1,           /* (?#..) */
+    FANCY_TRIVIUM_LINE_COMMENT = 2,      /* from # through its line feed, or through the end of the pattern */
+    FANCY_TRIVIUM_INLINE_FLAGS = 3,      /* inline flags, as (?i): flags_before, flags_after */
+    FANCY_TRIVIUM_OPENING = 4,           /* of a flag group, as (?: or (?i: : flags_before, flags_after */
+    FANCY_TRIVIUM_CLOSING = 5,           /* the closing parenthesis of such a group */
+    FANCY_TRIVIUM_DROPPED = 6,           /* what leaves nothing in the tree: counts or operators of a quantifier without effect
+                                            in Oniguruma mode; of a conditional without branches, as (?(1)|), all but the
+                                            condition */
+    FANCY_TRIVIUM_INNER_COMMENT = 7,     /* a comment inside a token, as in ((?#c)a) or a{2(?#c)}; if the token is a row of this
+                                            array, after that row and inside it */
+    FANCY_TRIVIUM_INNER_LINE_COMMENT = 8 /* the same, from # through its line feed */
 };
 
 /* What a printed text is to be: a whole pattern or the inside of a group, a branch of an alternation, a part of a
@@ -268,7 +272,7 @@ struct fancy_range {
 
 /* Capacities that suffice for a pattern of this length in bytes, so that one call of fancy_parse or fancy_tree is enough. This
  * is proved for trees, whose texts have at most 6 * length bytes. FANCY_MAX_TEXTS also suffices for the message that fancy_tree
- * writes, which is tested. That FANCY_MAX_TRIVIA suffices for fancy_trivia is tested too: each trivium has a byte of its own.
+ * writes, which is tested. That FANCY_MAX_TRIVIA suffices for fancy_trivia is tested too: each trivium begins at a byte of its own.
  * FANCY_MAX_NAMES(0) is 0. */
 #define FANCY_MAX_NODES(length) (2 * (size_t)(length) + 1)
 #define FANCY_MAX_TEXTS(length) (6 * (size_t)(length) + 128)

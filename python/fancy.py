@@ -183,6 +183,8 @@ class TriviumKind(enum.IntEnum):
     OPENING = 4  #: the opening of a flag group, as `(?:` or `(?i:`
     CLOSING = 5  #: the closing parenthesis of such a group
     DROPPED = 6  #: what leaves nothing in the tree, as `(?(` and `)|)` in `(?(1)|)`
+    INNER_COMMENT = 7  #: a comment inside a token, as in `((?#c)a)` or `a{2(?#c)}`; if the token is a `Trivium`, after that and inside it
+    INNER_LINE_COMMENT = 8  #: the same, from `#` through its line feed
 
 
 class Precedence(enum.IntEnum):

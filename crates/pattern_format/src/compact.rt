@@ -526,7 +526,7 @@ fn in_line_once(alloc: Global, pattern: &str, flags: u32) -> Result<Option<Strin
         Err(Error::OutOfMemory) => return Err(AllocError),
     };
     let mut tokens = tokens_of(alloc, pattern, &parsed, false)?;
-    let comments = all_comments(alloc, pattern, &parsed)?;
+    let comments = all_comments(alloc, &parsed.trivia)?;
     let line_ends = kept_lines(alloc, pattern, &mut tokens, &comments)?;
     if line_ends.is_none() {
         tokens = with_bars_first(alloc, &tokens)?;

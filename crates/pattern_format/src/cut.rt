@@ -282,6 +282,7 @@ impl<'p> Cutter<'p> {
             }
             TriviumKind::Closing => (TokenKind::Other, self.close(nodes)),
             TriviumKind::Dropped => return self.push_between(text),
+            TriviumKind::InnerComment | TriviumKind::InnerLineComment => return Ok(()),
         };
         self.tokens.push(Token {
             text,
@@ -297,6 +298,10 @@ impl<'p> Cutter<'p> {
     fn push_tree(&mut self, nodes: &[Node], trivia: &[Trivium]) -> Result<(), AllocError> {
         let mut rest = nodes;
         for trivium in trivia {
+            // A comment in a token is in the text of the token.
+            if trivium.kind.is_inner() {
+                continue;
+            }
             rest = self.push_nodes(rest, trivium.span.start)?;
             self.push_trivium(*trivium, rest)?;
         }
@@ -312,7 +317,7 @@ pub(crate) fn tokens_of<'p>(
     parsed: &SpannedTree,
     keeps_lines: bool,
 ) -> Result<Vec<Token<'p>>, AllocError> {
-    let nodes = nodes_of(alloc, pattern, parsed)?;
+    let nodes = nodes_of(alloc, parsed)?;
     let mut cutter = Cutter {
         pattern,
         keeps_lines,

@@ -14,8 +14,10 @@ const PREFIX: &str = "patterns: allow ";
 fn comment_text<'p>(trivium: &Trivium, pattern: &'p str) -> Option<&'p str> {
     let text = trivium.span.text(pattern)?;
     match trivium.kind {
-        TriviumKind::Comment => text.strip_prefix("(?#")?.strip_suffix(')'),
-        TriviumKind::LineComment => text.strip_prefix('#'),
+        TriviumKind::Comment | TriviumKind::InnerComment => {
+            text.strip_prefix("(?#")?.strip_suffix(')')
+        }
+        TriviumKind::LineComment | TriviumKind::InnerLineComment => text.strip_prefix('#'),
         TriviumKind::InlineFlags { .. }
         | TriviumKind::Opening { .. }
         | TriviumKind::Closing

@@ -89,7 +89,7 @@ fn kept_comment(
     if comments == Comments::Drop || !subject.pattern.as_bytes().contains(&b'#') {
         return Ok(None);
     }
-    let Some(position) = first_comment(subject.alloc, subject.pattern, parsed)? else {
+    let Some(position) = first_comment(subject.pattern, parsed) else {
         return Ok(None);
     };
     Ok(Some(position))

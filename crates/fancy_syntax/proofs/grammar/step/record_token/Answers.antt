@@ -1,7 +1,7 @@
 use Rattle.std.proofs.Common.{◌≡◌, true, refl, sym, subst, ◌∙◌}
 use Rattle.fancy_grammar.specs.Join.{is_empty}
 use Rattle.fancy_syntax.specs.View.{view}
-use Rattle.fancy_syntax.proofs.grammar.step.record_atom.Goals as goal
+use Rattle.fancy_syntax.proofs.grammar.step.record_token.Goals as goal
 
 pub returns-in_ok-pass : goal.returns-in_ok-pass
 returns-in_ok-pass g c l h =
