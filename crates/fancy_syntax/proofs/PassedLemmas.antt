@@ -5,13 +5,17 @@ use Rattle.std.proofs.lemmas.Bool.Decides.{nat_tests}
 use Rattle.std.specs.Prelude.{not, insert}
 use Rattle.std.proofs.lemmas.List.{map-append, take_more, drop_more, drop_all, take-map, drop-map, length-map}
 use Rattle.fancy_grammar.specs.Trivia.{Trivium, Passed, part, dropped, with_dropped, filled, located, kept, of_comment}
-use Rattle.fancy_grammar.specs.State.{State, skipped}
+use Rattle.fancy_grammar.specs.State.{State, at, skipped}
+use Rattle.fancy_grammar.specs.Tree.{Tree}
 use Rattle.fancy_lex.specs.Comments.{comments}
+use Rattle.fancy_lex.specs.Quantifier.{counts}
 use Rattle.fancy_lex.specs.LayoutSteps.{rest}
 use Rattle.fancy_lex.specs.Text.{Text}
+use Rattle.fancy_lex.specs.declared.counts.Counts.{Counts}
 use Rattle.fancy_lex.proofs.CommentLaws.{none_after_layout}
 use Rattle.fancy_syntax.specs.Log.{Log, pass, layout_passed, text_dropped, text_filled, inserted}
 use Rattle.fancy_syntax.specs.Log.{text_inserted, body_dropped, conditional_dropped}
+use Rattle.fancy_syntax.specs.Recording.{counted_recorded, quant_recorded}
 use Rattle.fancy_syntax.specs.declared.grammar.recorded.ConditionPart.{ConditionPart}
 use Rattle.fancy_syntax.specs.TriviaViews.{recorded_part}
 use Rattle.fancy_syntax.specs.declared.grammar.recorded.RecordedTrivium.{RecordedTrivium}
@@ -34,6 +38,12 @@ pass_first x xs l = ap (λ ys. record l { passed = ys }) (sym (append_assoc l.pa
 -- parts of two tokens are passed one after the other
 pub pass_both : (xs ys : List Passed) (l : Log) → pass (xs ++ ys) l ≡ pass ys (pass xs l)
 pass_both xs ys l = ap (λ zs. record l { passed = zs }) (sym (append_assoc l.passed xs ys))
+
+-- the quantifier after layout, whose counts are at u and end before t
+pub quant_counted : (a : Tree) (s : State) (u t : Text) (c : Counts) (l : Log) → skipped s ≡ rest u →
+    counts s.flags.ignore_space u ≡ Some (c, t) →
+    counted_recorded u a (at s u) (layout_passed s l) (c, t) ≡ quant_recorded a s l
+quant_counted a s u t c l e f = rw (e, f) refl
 
 -- the next part lies in the one before it
 pub filled_inner : (xs : List RecordedTrivium) (i : ℕ) (d : RecordedTrivium) (from end : ℕ) (l n : Log) → i < length xs →
