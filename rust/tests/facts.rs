@@ -1,120 +1,61 @@
 //! What is known of matches, compared with what is written here by hand.
 
-use fancy_syntax::{check, facts, parse, Flags, NodeFacts};
+use fancy_syntax::{check, facts, parse, Flags, NodeFacts, PatternFacts};
 
 const U: Flags = Flags::UNICODE;
 
-/// The lengths of a node in characters and bytes, and what else is so: `e` it can be empty, `c` its length is constant, `s` and `f` it is
-/// anchored at the start and the end.
-type Wanted = Option<(usize, Option<usize>, usize, Option<usize>, &'static str)>;
+/// A node of one ASCII character.
+const ONE: &str = "1..1 1..1 c";
+/// The largest number.
+const MANY: &str = "18446744073709551615.. 18446744073709551615.. ";
 
-fn row(of: &Option<NodeFacts>) -> Option<(usize, Option<usize>, usize, Option<usize>, String)> {
-    let it = of.as_ref()?;
-    let flags = [it.can_be_empty, it.is_constant_length, it.is_anchored_at_start, it.is_anchored_at_end];
-    let letters = "ecsf".chars().zip(flags).filter(|(_, holds)| *holds).map(|(letter, _)| letter).collect();
-    Some((it.min_length, it.max_length, it.min_bytes, it.max_bytes, letters))
+/// The lengths of a node in characters and in bytes, without a number for no limit, and what else is so: `e` it can be empty, `c` its
+/// length is constant, `s` and `f` it is anchored at the start and the end.
+fn row(facts: &Option<NodeFacts>) -> String {
+    let Some(it) = facts else { return "?".to_owned() };
+    let limit = |most: Option<usize>| most.map_or(String::new(), |most| most.to_string());
+    let lengths = format!("{}..{} {}..{}", it.min_length, limit(it.max_length), it.min_bytes, limit(it.max_bytes));
+    let holds = [it.can_be_empty, it.is_constant_length, it.is_anchored_at_start, it.is_anchored_at_end];
+    let letters: String = "ecsf".chars().zip(holds).filter(|(_, holds)| *holds).map(|(letter, _)| letter).collect();
+    format!("{lengths} {letters}")
 }
 
-const ONE: Wanted = Some((1, Some(1), 1, Some(1), "c"));
+/// The prefix, whether it is the whole match, and whether the pattern is easy.
+fn whole(facts: &PatternFacts) -> String {
+    let [whole, easy] =
+        [(facts.is_prefix_whole, " whole"), (facts.is_easy, " easy")]
+            .map(|(holds, word)| if holds { word } else { "" });
+    format!("{}{whole}{easy}", facts.prefix.as_deref().unwrap_or("?"))
+}
 
 #[test]
 fn facts_by_hand() {
-    let many = usize::MAX;
-    let patterns: [(&str, Flags, Option<&str>, bool, bool, &[Wanted]); 15] = [
-        ("", U, Some(""), true, true, &[Some((0, Some(0), 0, Some(0), "ec"))]),
-        (
-            "a|bc",
-            U,
-            Some(""),
-            false,
-            true,
-            &[Some((1, Some(2), 1, Some(2), "")), ONE, Some((2, Some(2), 2, Some(2), "c")), ONE, ONE],
-        ),
+    let patterns: [(&str, Flags, &str, &[&str]); 15] = [
+        ("", U, " whole easy", &["0..0 0..0 ec"]),
+        ("a|bc", U, " easy", &["1..2 1..2 ", ONE, "2..2 2..2 c", ONE, ONE]),
         // characters of two and of four bytes; and of one to three, since k, K and the Kelvin sign are one letter
-        ("é{2,}", U, Some("é"), false, true, &[Some((2, None, 4, None, "")), Some((1, Some(1), 2, Some(2), "c"))]),
-        (
-            "a😀",
-            U,
-            Some("a😀"),
-            true,
-            true,
-            &[Some((2, Some(2), 5, Some(5), "c")), ONE, Some((1, Some(1), 4, Some(4), "c"))],
-        ),
-        ("(?i)k", U, Some(""), false, true, &[Some((1, Some(1), 1, Some(3), "c"))]),
-        (".?", U, Some(""), false, true, &[Some((0, Some(1), 0, Some(4), "e")), Some((1, Some(1), 1, Some(4), "c"))]),
-        ("[0-9]", Flags::empty(), Some(""), false, true, &[ONE]),
+        ("é{2,}", U, "é easy", &["2.. 4.. ", "1..1 2..2 c"]),
+        ("a😀", U, "a😀 whole easy", &["2..2 5..5 c", ONE, "1..1 4..4 c"]),
+        ("(?i)k", U, " easy", &["1..1 1..3 c"]),
+        (".?", U, " easy", &["0..1 0..4 e", "1..1 1..4 c"]),
+        ("[0-9]", Flags::empty(), " easy", &[ONE]),
         // anchors: of one piece, of all branches, and of a repeat that may take no turn
-        (
-            "^a$",
-            U,
-            Some("a"),
-            true,
-            true,
-            &[
-                Some((1, Some(1), 1, Some(1), "csf")),
-                Some((0, Some(0), 0, Some(0), "ecs")),
-                ONE,
-                Some((0, Some(0), 0, Some(0), "ecf")),
-            ],
-        ),
-        (
-            "^|a",
-            U,
-            Some(""),
-            false,
-            true,
-            &[Some((0, Some(1), 0, Some(1), "e")), Some((0, Some(0), 0, Some(0), "ecs")), ONE],
-        ),
-        (
-            "(^)?",
-            U,
-            Some(""),
-            false,
-            true,
-            &[
-                Some((0, Some(0), 0, Some(0), "ec")),
-                Some((0, Some(0), 0, Some(0), "ecs")),
-                Some((0, Some(0), 0, Some(0), "ecs")),
-            ],
-        ),
-        ("^a", U | Flags::MULTI, Some("a"), true, true, &[ONE, Some((0, Some(0), 0, Some(0), "ec")), ONE]),
-        // a bound of a look-behind
-        (
-            "(?<=a|b*)d",
-            U,
-            Some("d"),
-            true,
-            false,
-            &[
-                ONE,
-                Some((0, Some(0), 0, Some(0), "ec")),
-                Some((0, None, 0, None, "e")),
-                ONE,
-                Some((0, None, 0, None, "e")),
-                ONE,
-                ONE,
-            ],
-        ),
+        ("^a$", U, "a whole easy", &["1..1 1..1 csf", "0..0 0..0 ecs", ONE, "0..0 0..0 ecf"]),
+        ("^|a", U, " easy", &["0..1 0..1 e", "0..0 0..0 ecs", ONE]),
+        ("(^)?", U, " easy", &["0..0 0..0 ec", "0..0 0..0 ecs", "0..0 0..0 ecs"]),
+        ("^a", U | Flags::MULTI, "a whole easy", &[ONE, "0..0 0..0 ec", ONE]),
+        // a look-behind without a bound
+        ("(?<=a|b*)d", U, "d whole", &[ONE, "0..0 0..0 ec", "0.. 0.. e", ONE, "0.. 0.. e", ONE, ONE]),
         // lengths that do not fit
-        (
-            "(?:a{4294967296}){4294967296}",
-            U,
-            Some("a"),
-            false,
-            true,
-            &[Some((many, None, many, None, "")), Some((1 << 32, Some(1 << 32), 1 << 32, Some(1 << 32), "c")), ONE],
-        ),
+        ("(?:a{4294967296}){4294967296}", U, "a easy", &[MANY, "4294967296..4294967296 4294967296..4294967296 c", ONE]),
         // what is not known, and what is known below it
-        (r"(a)\1", U, None, false, false, &[None, ONE, ONE, None]),
-        ("a++", U, None, false, false, &[None, Some((1, None, 1, None, "")), ONE]),
+        (r"(a)\1", U, "?", &["?", ONE, ONE, "?"]),
+        ("a++", U, "?", &["?", "1.. 1.. ", ONE]),
     ];
-    for (pattern, flags, prefix, is_whole, is_easy, nodes) in patterns {
+    for (pattern, flags, wanted, nodes) in patterns {
         let found = facts(pattern, flags).unwrap();
-        let rows: Vec<_> = found.nodes.iter().map(row).collect();
-        let wanted = |it: &Wanted| it.map(|(a, b, c, d, letters)| (a, b, c, d, letters.to_owned()));
-        assert_eq!(rows, nodes.iter().map(wanted).collect::<Vec<_>>(), "{pattern}");
-        let whole = (found.prefix.as_deref(), found.is_prefix_whole, found.is_easy);
-        assert_eq!(whole, (prefix, is_whole, is_easy), "{pattern}");
+        assert_eq!(found.nodes.iter().map(row).collect::<Vec<_>>(), nodes, "{pattern}");
+        assert_eq!(whole(&found), wanted, "{pattern}");
     }
 }
 
