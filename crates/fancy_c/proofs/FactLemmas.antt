@@ -72,7 +72,7 @@ enough_for_nodes {f} {bytes} {w} {t} {rows} {whole} h enough (inl short) =
     let (m, tree) = h.tree in
     let count = AllZip-long (IsRowOf f.unicode) (listed t) rows h.facts.nodes in
     omega (arith, tree.parsed.bounds.0, listed_nodes t, count, enough, short)
-enough_for_nodes h enough (inr short) =
+enough_for_nodes {f} {bytes} {w} {t} {rows} {whole} h enough (inr short) =
     omega (arith, short, ap length h.facts.text, ap (λ s. s.prefix_size) h.facts.is)
 
 -- one more character
