@@ -487,6 +487,46 @@ def are_ranges_right():
     )
 
 
+def are_facts_right():
+    """What is known of matches: of each node its lengths in characters and bytes, and by letters whether it can be empty, its length is
+    constant, and it is anchored at the start and the end (f)."""
+    one, at_start = (1, 1, 1, 1, "c"), (0, 0, 0, 0, "ecs")
+    wanted = {
+        "": ("", True, True, [(0, 0, 0, 0, "ec")]),
+        "a|bc": ("", False, True, [(1, 2, 1, 2, ""), one, (2, 2, 2, 2, "c"), one, one]),
+        "ab|ac": ("a", False, True, [(2, 2, 2, 2, "c"), (2, 2, 2, 2, "c"), one, one, (2, 2, 2, 2, "c"), one, one]),
+        "é{2,}": ("é", False, True, [(2, None, 4, None, ""), (1, 1, 2, 2, "c")]),
+        "a😀": ("a😀", True, True, [(2, 2, 5, 5, "c"), one, (1, 1, 4, 4, "c")]),
+        # k, K and the Kelvin sign, of three bytes, are one letter
+        "(?i)k": ("", False, True, [(1, 1, 1, 3, "c")]),
+        ".?": ("", False, True, [(0, 1, 0, 4, "e"), (1, 1, 1, 4, "c")]),
+        "^a$": ("a", True, True, [(1, 1, 1, 1, "csf"), at_start, one, (0, 0, 0, 0, "ecf")]),
+        "^|a": ("", False, True, [(0, 1, 0, 1, "e"), at_start, one]),
+        "(^)?": ("", False, True, [(0, 0, 0, 0, "ec"), at_start, at_start]),
+        "(?<=a|b*)d": ("d", True, False, [one, (0, 0, 0, 0, "ec"), (0, None, 0, None, "e"), one, (0, None, 0, None, "e"), one, one]),
+        "(?:a{4294967296}){4294967296}": ("a", False, True, [(2**64 - 1, None, 2**64 - 1, None, ""), (2**32, 2**32, 2**32, 2**32, "c"), one]),
+        r"(a)\1": (None, False, False, [None, one, one, None]),
+        "a++": (None, False, False, [None, (1, None, 1, None, ""), one]),
+    }  # fmt: skip
+    return (
+        all(listed(fancy.facts(pattern)) == it == listed(fancy.facts(pattern.encode())) for pattern, it in wanted.items())
+        and fancy.facts("[0-9]", fancy.Flag(0)) == fancy.facts("[0-9]")
+        and not fancy.facts("^a", fancy.UNICODE | fancy.MULTI).nodes[0].is_anchored_at_start
+        # more nodes than bytes
+        and len(fancy.facts("|" * 5000).nodes) == len(list(fancy.parse("|" * 5000).walk()))
+        and fancy.facts("é" * 5000).prefix == "é" * 5000
+        and raises(fancy.Error, lambda: fancy.facts("a("))
+        and raises(fancy.Error, lambda: fancy.facts(b"\xff"))
+    )
+
+
+def listed(facts):
+    """The facts of a pattern, with those of each node as a tuple."""
+    nodes = [it and dataclasses.astuple(it) for it in facts.nodes]
+    rows = [it and (*it[:4], "".join(letter for letter, holds in zip("ecsf", it[4:]) if holds)) for it in nodes]
+    return facts.prefix, facts.is_prefix_whole, facts.is_easy, rows
+
+
 def is_class_of_re(text, flags=0):
     """Whether a class has the characters that Python's engine finds, among the first."""
     codes, matches = range(0x3000), re.compile(text, flags).fullmatch
@@ -535,6 +575,7 @@ def are_flags_looked_at():
     tree = fancy.parse("a")
     calls = [
         fancy.parse, fancy.check, fancy.trivia, fancy.to_pattern, fancy.normal_form, fancy.escape, fancy.is_resolved, fancy.class_ranges,
+        fancy.facts,
         lambda pattern, flags: fancy.format(pattern, flags, fancy.Style.KEPT),
         lambda pattern, flags: fancy.parse(pattern).root.character_ranges(flags),
         lambda pattern, flags: dataclasses.replace(tree, flags=flags).to_pattern(),
@@ -691,10 +732,10 @@ def are_null_pointers_taken():
         call.fancy_to_pattern_nodes(*none, *none, 0, *none, None, 0, *none), call.fancy_trivia(*none, 0, *none, None),
         call.fancy_format(*none, 0, fancy.Style.KEPT, 0, *none), call.fancy_is_resolved(*none, 0), call.fancy_escape(*none, 0, *none),
         call.fancy_parse_id(*none), call.fancy_parse_decimal(*none, None), call.fancy_class_ranges(*none, 0, *none, None),
-        call.fancy_node_ranges(ctypes.byref(fancy._Node(kind=2)), *none, 32, *none, None),
+        call.fancy_node_ranges(ctypes.byref(fancy._Node(kind=2)), *none, 32, *none, None), call.fancy_facts(*none, 0, *none, *none, None),
     ]  # fmt: skip
     call.fancy_group_name.restype = ctypes.c_size_t
-    return [it.status for it in got] == [0, 0, 0, 0, 4, 4, 7, 7, 0, 0, 0, 0, 0, 0, 12, 4] and call.fancy_group_name(None, 0, 1) == 0
+    return [it.status for it in got] == [0, 0, 0, 0, 4, 4, 7, 7, 0, 0, 0, 0, 0, 0, 12, 4, 4] and call.fancy_group_name(None, 0, 1) == 0
 
 
 def is_command_right():
@@ -737,6 +778,7 @@ def main():
         "formatted patterns": are_formatted_right(),
         "calls for engines": are_engine_calls_right(),
         "characters": are_ranges_right(),
+        "facts": are_facts_right(),
         "old names": are_old_names_right(),
         "flags": are_flags_looked_at(),
         "numbers in a tree": are_numbers_looked_at(),

@@ -8,6 +8,7 @@
 #include "format.h"
 #include "all.h"
 #include "engine.h"
+#include "facts.h"
 
 static uint64_t state;
 
@@ -86,6 +87,7 @@ static bool is_refused_by_all(const char *pattern, size_t length, uint32_t flags
            is_not_utf8(fancy_trivia(pattern, length, flags, NULL, 0, NULL), position) &&
            is_not_utf8(fancy_format(pattern, length, flags, FANCY_STYLE_KEPT, 0, NULL, 0), position) &&
            is_not_utf8(fancy_print(pattern, length, flags, 0, NULL, 0), position) &&
+           is_not_utf8(fancy_facts(pattern, length, flags, NULL, 0, NULL, 0, NULL), position) &&
            is_not_utf8(fancy_to_pattern(pattern, length, flags, NULL, 0), position) && are_engine_calls_right(pattern, length, flags);
 }
 
@@ -148,7 +150,7 @@ int main(int argument_count, char **arguments) {
         if (i % 16 == 0 && prefix == length)
             is_right = is_right && are_rows_right(pattern, length, flags) && are_trivia_right(pattern, length, flags) &&
                        are_formatted_right(pattern, length, flags) && is_all_right(pattern, length, flags) &&
-                       are_engine_calls_right(pattern, length, flags);
+                       are_engine_calls_right(pattern, length, flags) && are_facts_right(pattern, length, flags);
         free(pattern);
         if (is_right) continue;
         wrong++;
