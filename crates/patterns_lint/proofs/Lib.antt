@@ -1,3 +1,4 @@
 mod BranchLemmas
+mod EmptyLemmas
 mod NodeLemmas
 mod SilencedLemmas

@@ -1,8 +1,10 @@
 //! Branches that are likely mistakes.
-ghost use Rattle.std.specs.Prelude.{◌≡◌, ◌↔◌, ℕ, true, Some, chars, IsTrue, IfOk, IfSome, IsSomeAnd, slice_get};
+ghost use Rattle.std.specs.Prelude.{◌≡◌, ◌↔◌, ℕ, Bool, true, Some, chars, IsTrue, IfOk, IfSome, IsSomeAnd, slice_get};
 ghost use Rattle.fancy_syntax.specs.View.{view, views};
+ghost use Rattle.pattern_matches.specs.Defined.{IsDefined};
 ghost use Rattle.patterns_lint.specs.Branches as spec;
 ghost use Rattle.patterns_lint.specs.Empty as empty_spec;
+ghost use Rattle.patterns_lint.specs.Empty.{HasEachEmptyMatch};
 ghost use Rattle.patterns_lint.specs.declared.branches.Following.TheVariants as following;
 ghost use Rattle.lint_rules.specs.declared.problem.Problem.TheVariants as reported;
 
@@ -431,8 +433,10 @@ impl<'b> Earlier<'b> {
 
     /// The first branch that matches the empty text everywhere.
     fn matching_everywhere(&self, earlier: &[Expr]) -> Option<usize>
-        ensures { IfSome result (λ i. IsSomeAnd (slice_get (views earlier.now) i)
+        ensures form { IfSome result (λ i. IsSomeAnd (slice_get (views earlier.now) i)
             (λ e. empty_spec.matches_everywhere e ≡ true)) }
+        ensures matches { (unicode : Bool) → IfSome result (λ i. IsSomeAnd (slice_get (views earlier.now) i)
+            (λ e. IsDefined unicode e → HasEachEmptyMatch unicode e)) }
     {
         let i = self.everywhere?;
         let one = earlier.get(i)?;
