@@ -1,3 +1,4 @@
+mod BeginningLemmas
 mod BranchLemmas
 mod EmptyLemmas
 mod NodeLemmas
