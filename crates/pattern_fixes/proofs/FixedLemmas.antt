@@ -1,7 +1,7 @@
 -- Trees with reports fixed, node by node. In each, o is the result of a test, and u says whether patterns are read with
 -- Unicode.
 use Rattle.std.proofs.Common.{◌≡◌, ℕ, suc, ◌+◌, ◌<◌, ◌≤◌, Bool, List, [], ◌∷◌, ◌++◌, length, take, drop, get_or}
-use Rattle.std.proofs.Common.{Result, Ok, Err, IfOk, IsTrue, Vec, Global, Contains}
+use Rattle.std.proofs.Common.{Result, Ok, Err, IfOk, IsTrue, Vec, Global, Contains, chars}
 use Rattle.std.proofs.Common.{sym, ap, ◌∙◌, subst, drop-cons, add-one}
 use Rattle.std.proofs.lemmas.List.{drop_all, nil_from_length, map_more}
 use Rattle.fancy_lex.specs.declared.flags.Flags.{Flags}
