@@ -1,6 +1,7 @@
 // Random patterns with numbered comments at every position that layout may have, also inside tokens: `commented SEED COUNT` makes so many,
 // and looks whether each style writes every comment, in order. It knows the comments by the numbers that it gave them, and reads no
 // trivia. The status is 1 where a comment is lost, or where fewer than half of the patterns are valid.
+#include "draw.h"
 #include <fancy.h>
 #include <inttypes.h>
 #include <stdbool.h>
@@ -9,18 +10,6 @@
 #include <string.h>
 
 enum { CAPACITY = 1 << 16, DEEPEST = 4 };
-
-static uint64_t state;
-
-// xorshift64*
-static uint64_t draw(void) {
-    state ^= state >> 12;
-    state ^= state << 25;
-    state ^= state >> 27;
-    return state * 2685821657736338717u;
-}
-
-static size_t below(size_t bound) { return (size_t)((draw() >> 32) % bound); }
 
 static char pattern[CAPACITY];
 static size_t length, comments;
@@ -165,8 +154,7 @@ int main(int argument_count, char **arguments) {
     static char text[16 * CAPACITY + 1];
     static const uint32_t styles[] = {FANCY_STYLE_KEPT, FANCY_STYLE_VERBOSE, FANCY_STYLE_COMPACT};
     if (argument_count != 3) return 2;
-    // far apart, also for seeds that follow one another
-    state = (strtoull(arguments[1], NULL, 10) + 1) * 11400714819323198485u;
+    seed(arguments[1]);
     size_t count = strtoull(arguments[2], NULL, 10), valid = 0, all = 0, lost = 0;
     for (size_t i = 0; i < count; i++) {
         bool is_verbose = below(2);

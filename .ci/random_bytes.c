@@ -8,19 +8,8 @@
 #include "format.h"
 #include "all.h"
 #include "engine.h"
+#include "draw.h"
 #include "facts.h"
-
-static uint64_t state;
-
-// xorshift64*
-static uint64_t draw(void) {
-    state ^= state >> 12;
-    state ^= state << 25;
-    state ^= state >> 27;
-    return state * 2685821657736338717u;
-}
-
-static size_t below(size_t bound) { return (size_t)((draw() >> 32) % bound); }
 
 static const char *const pieces[] = {
     "(", ")", "(?:", "(?i)", "(?<n>", "(?'n'", "(?P<m>", "(?>", "(?=", "(?!", "(?<=", "(?<!", "(?~", "(?~|", "(?(1)", "(?(<n>)",
@@ -130,8 +119,7 @@ static void write_record(FILE *file, const char *pattern, size_t length, uint32_
 
 int main(int argument_count, char **arguments) {
     if (argument_count != 4) return 2;
-    // far apart, also for seeds that follow one another
-    state = (strtoull(arguments[1], NULL, 10) + 1) * 11400714819323198485u;
+    seed(arguments[1]);
     size_t count = strtoull(arguments[2], NULL, 10), refused = 0, wrong = 0;
     FILE *file = fopen(arguments[3], "w");
     if (!file) return 2;
