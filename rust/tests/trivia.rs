@@ -46,16 +46,8 @@ fn trivia_by_hand() {
         ("a{1(?#c),2}", U, &[(3..8, InnerComment)]),
         ("a{1 #c\n,2}", verbose, &[(4..7, InnerLineComment)]),
         ("((?#b)(?#c)a)", U, &[(1..6, InnerComment), (6..11, InnerComment)]),
-        (
-            "((?#c)?:a)",
-            U,
-            &[(0..8, Opening { around: U, inside: U }), (1..6, InnerComment), (9..10, Closing)],
-        ),
-        (
-            "(?i(?#c)s)",
-            U,
-            &[(0..10, InlineFlags { before: U, after: casei | Flags::DOTNL }), (3..8, InnerComment)],
-        ),
+        ("((?#c)?:a)", U, &[(0..8, Opening { around: U, inside: U }), (1..6, InnerComment), (9..10, Closing)]),
+        ("(?i(?#c)s)", U, &[(0..10, InlineFlags { before: U, after: casei | Flags::DOTNL }), (3..8, InnerComment)]),
         (r"[a\x(?#c){61}]", U, &[(4..9, InnerComment)]),
         // characters of two bytes
         ("é(?#é)", U, &[(2..8, Comment)]),
