@@ -13,7 +13,7 @@ _patterns() {
     esac
     case ${COMP_WORDS[1]} in
         check) options='--flags -e --regexp -z --null-data --lines -q --quiet --color --config --no-config --textmate --keys --records --format --json -h --help' ;;
-        tree) options='--flags --ascii --spans --trivia --all --classes --json -e --regexp --file --config --no-config -h --help' ;;
+        tree) options='--flags --ascii --spans --trivia --all --classes --facts --json -e --regexp --file --config --no-config -h --help' ;;
         picture) options='--flags --html --width -e --regexp --file --config --no-config -h --help' ;;
         lint) options='--flags -e --regexp -z --null-data --lines -q --quiet --color --config --no-config --textmate --keys --records --allow --warn --deny --dialect --max-warnings --fix --diff --format --json -v --verbose --rules -h --help' ;;
         format) options='--flags -e --regexp -z --null-data --lines -q --quiet --color --config --no-config --textmate --keys --records --write --check --diff -v --verbose --width --compact --canonical --drop-comments -h --help' ;;

@@ -26,6 +26,7 @@ complete -c patterns -n '__fish_seen_subcommand_from tree' -l spans -d 'Writes a
 complete -c patterns -n '__fish_seen_subcommand_from tree' -l trivia -d 'Lists what no node has: comments, inline flags, the parentheses of flag groups, and what leaves nothing in the tree, each with its span and text'
 complete -c patterns -n '__fish_seen_subcommand_from tree' -l all -d 'Draws each node in its own line; otherwise adjacent letters are drawn as one literal'
 complete -c patterns -n '__fish_seen_subcommand_from tree' -l classes -d 'Writes after each class the characters that it contains, as ranges, of which only the first are written'
+complete -c patterns -n '__fish_seen_subcommand_from tree' -l facts -d 'Draws each node in its own line, and writes after it how long its matches are, in characters, and in bytes where that differs, and whether they are at the start or the end of the text'
 complete -c patterns -n '__fish_seen_subcommand_from tree' -l json -d 'Writes JSON, one object per line, to standard output'
 complete -c patterns -n '__fish_seen_subcommand_from tree' -s e -l regexp -x -d 'The pattern, which may begin with -'
 complete -c patterns -n '__fish_seen_subcommand_from tree' -l file -x -d 'Reads the pattern from a file, at a position: FILE:LINE, or for a text of JSON FILE:PATH, as in grammar.json:patterns[0].match; also with the columns, or the line and column of a text of JSON, that reports write. FILE alone has one line; - is standard input. FILE is the longest beginning that names a file, so it may have colons'

@@ -203,6 +203,7 @@ pub(crate) fn look_of(matches: &ArgMatches<'_>) -> Look {
         },
         has_spans: matches.get_flag("spans"),
         has_each_literal: matches.get_flag("all"),
+        has_facts: matches.get_flag("facts"),
         has_classes: matches.get_flag("classes"),
         has_trivia: matches.get_flag("trivia"),
     }

@@ -162,7 +162,7 @@ the longest beginning that names a file, so it may have colons",
 
 pub(crate) static CHECK_OPTIONS: [OptionRow; 2] = [FORMAT, JSON];
 
-pub(crate) static TREE_OPTIONS: [OptionRow; 7] = [
+pub(crate) static TREE_OPTIONS: [OptionRow; 8] = [
     FLAGS,
     OptionRow {
         id: "ascii",
@@ -193,6 +193,13 @@ drawn as one literal",
         help: "Writes after each class the characters that it contains, as ranges,
 of which only the first are written",
         conflicts: &["json"],
+        ..FLAG
+    },
+    OptionRow {
+        id: "facts",
+        help: "Draws each node in its own line, and writes after it how long its
+matches are, in characters, and in bytes where that differs, and
+whether they are at the start or the end of the text",
         ..FLAG
     },
     JSON,

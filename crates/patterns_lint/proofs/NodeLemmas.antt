@@ -1,7 +1,8 @@
 -- Nodes that are as they were read, and absent forms, by their cases.
-use Rattle.std.proofs.Common.{◌≡◌, ℕ, Bool, true, false, List, Option, rules, ◌∙◌, refl, ap, sym}
+use Rattle.std.proofs.Common.{◌≡◌, ℕ, Bool, true, false, Box, Global, List, Option, rules, ◌∙◌, refl, ap, sym}
 use Rattle.fancy_grammar.specs.Label.{AstReference}
-use Rattle.fancy_grammar.specs.Tree.{Tree, ast_node, ast_group}
+use Rattle.fancy_grammar.specs.Tree.{Tree, ast_node, ast_group, look_around}
+use Rattle.fancy_grammar.specs.declared.kinds.LookAround.{LookAround}
 use Rattle.fancy_syntax.specs.View.{view, view_absent, view_ast, absent_step, ast_step, expr_step}
 use Rattle.fancy_syntax.specs.declared.expr.Absent.{Absent, out-Absent, map-Absent, fold_out-Absent}
 use Rattle.fancy_syntax.specs.declared.expr.Absent.TheOpen.{Absent-F, AstNode-F, Expr-F}
@@ -9,6 +10,7 @@ use Rattle.fancy_syntax.specs.declared.expr.AstNode.{out-AstNode, map-AstNode, f
 use Rattle.fancy_syntax.specs.declared.expr.AstNode as ast
 use Rattle.fancy_syntax.specs.declared.expr.Expr.{Expr, AstNode, SubroutineCall, roll-Expr, out-Expr, roll-out-Expr}
 use Rattle.fancy_syntax.specs.declared.expr.Expr.{map-Expr}
+use Rattle.fancy_syntax.specs.declared.expr.Expr as node
 use Rattle.fancy_syntax.specs.declared.expr.Expr.{fold_out-Expr, the_lemmas}
 use Rattle.fancy_syntax.specs.declared.expr.Expr.TheVariants as variant
 use Rattle.patterns_lint.specs.Empty.{matches_only_empty, can_match_empty, matches_everywhere, has_group}
@@ -33,6 +35,9 @@ of_ast f b h k n position =
 
 pub view_AstNode : (n : ast.AstNode) (position : ℕ) → view (AstNode n position) ≡ view_ast n position
 view_AstNode n position = search (rules, the_lemmas)
+
+pub view_look_around : (b : Box Expr Global) (l : LookAround) → view (node.LookAround b l) ≡ look_around (view b.value) l
+view_look_around b l = search (rules, the_lemmas)
 
 pub ast_only_empty : (n : ast.AstNode) (p : ℕ) → matches_only_empty (view_ast n p) ≡ false
 ast_only_empty n p = of_ast matches_only_empty false (λ r q. refl) (λ name q t. refl) n p

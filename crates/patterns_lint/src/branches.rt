@@ -1,8 +1,13 @@
 //! Branches that are likely mistakes.
-ghost use Rattle.std.specs.Prelude.{◌≡◌, ◌↔◌, ℕ, true, Some, chars, IsTrue, IfOk, IfSome, IsSomeAnd, slice_get};
+ghost use Rattle.std.specs.Prelude.{◌≡◌, ◌↔◌, ℕ, Bool, true, Some, chars, IsTrue, IfOk, IfSome, IsSomeAnd, slice_get};
+ghost use Rattle.fancy_lex.specs.Flags.{flags_of};
+ghost use Rattle.fancy_syntax.specs.Spanned.{spanned_of};
 ghost use Rattle.fancy_syntax.specs.View.{view, views};
+ghost use Rattle.pattern_matches.specs.Defined.{IsDefined};
 ghost use Rattle.patterns_lint.specs.Branches as spec;
+ghost use Rattle.patterns_lint.specs.Branches.{IsCovered};
 ghost use Rattle.patterns_lint.specs.Empty as empty_spec;
+ghost use Rattle.patterns_lint.specs.Empty.{HasEachEmptyMatch};
 ghost use Rattle.patterns_lint.specs.declared.branches.Following.TheVariants as following;
 ghost use Rattle.lint_rules.specs.declared.problem.Problem.TheVariants as reported;
 
@@ -235,6 +240,24 @@ fn is_character(tree: &Expr) -> bool {
     )
 }
 
+/// Whether the later branch begins with what the earlier one matches, by their sets of characters. It is false if both are
+/// one character, which `subsumed-branch` is for.
+fn is_covered(
+    alloc: Global,
+    known: &mut KnownClasses,
+    pattern: &str,
+    later: SpannedNode<'_>,
+    earlier: SpannedNode<'_>,
+) -> Result<bool, AllocError>
+    ensures { IfOk result (λ b. IsTrue b → IsCovered (flags_of known.old.flags).unicode
+        (view (spanned_of later.entry).expr) (view (spanned_of earlier.entry).expr)) }
+{
+    if is_character(later.expr()) && is_character(earlier.expr()) {
+        return Ok(false);
+    }
+    begins_within(alloc, known, pattern, later, earlier)
+}
+
 /// Whether the text is this character.
 pub(crate) fn is_character_text(text: &str, c: char) -> bool
     ensures { result ≡ spec.is_character (spec.only_character (chars text.now)) c }
@@ -431,8 +454,10 @@ impl<'b> Earlier<'b> {
 
     /// The first branch that matches the empty text everywhere.
     fn matching_everywhere(&self, earlier: &[Expr]) -> Option<usize>
-        ensures { IfSome result (λ i. IsSomeAnd (slice_get (views earlier.now) i)
+        ensures form { IfSome result (λ i. IsSomeAnd (slice_get (views earlier.now) i)
             (λ e. empty_spec.matches_everywhere e ≡ true)) }
+        ensures matches { (unicode : Bool) → IfSome result (λ i. IsSomeAnd (slice_get (views earlier.now) i)
+            (λ e. IsDefined unicode e → HasEachEmptyMatch unicode e)) }
     {
         let i = self.everywhere?;
         let one = earlier.get(i)?;
@@ -461,8 +486,7 @@ impl<'b> Earlier<'b> {
         None
     }
 
-    /// Whether the branch begins with what the branch of this index matches, by their sets of characters. It is false
-    /// if both are one character, which `subsumed-branch` is for.
+    /// Whether the branch begins with what the branch of this index matches, by their sets of characters.
     fn is_beginning(
         &self,
         i: usize,
@@ -472,10 +496,7 @@ impl<'b> Earlier<'b> {
         let Some(earlier) = self.nodes.get(i) else {
             return Ok(false);
         };
-        if is_character(branch.expr()) && is_character(earlier.expr()) {
-            return Ok(false);
-        }
-        begins_within(
+        is_covered(
             *self.nodes.allocator(),
             known,
             self.pattern,

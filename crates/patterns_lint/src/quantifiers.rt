@@ -1,6 +1,10 @@
 //! Quantifiers that are likely mistakes.
-ghost use Rattle.std.specs.Prelude.{◌≡◌};
+ghost use Rattle.std.specs.Prelude.{◌≡◌, ℕ, Bool, false, Some, None};
+ghost use Rattle.fancy_grammar.specs.Tree.{Tree, repeat};
 ghost use Rattle.fancy_syntax.specs.View.{view};
+ghost use Rattle.lint_rules.specs.declared.rule.Rule.TheVariants as rule;
+ghost use Rattle.pattern_matches.specs.Defined.{IsDefined};
+ghost use Rattle.patterns_lint.specs.Empty.{HasNoEmptyMatch, HasOnlyEmptyMatches};
 ghost use Rattle.patterns_lint.specs.Quantifiers as spec;
 
 use crate::empty::{can_match_empty, has_group, matches_only_empty};
@@ -90,7 +94,12 @@ fn is_zero_quantifier(tree: &Expr, around: Surroundings) -> bool
 
 /// The rule that reports the node's quantifier.
 pub(crate) fn quantifier_rule(tree: &Expr, around: Surroundings) -> Option<Rule>
-    ensures { result ≡ spec.quantifier_rule around (view tree.now) }
+    ensures form { result ≡ spec.quantifier_rule around (view tree.now) }
+    ensures assertion { (unicode : Bool) → result ≡ Some rule.QuantifiedAssertion → IsDefined unicode (view tree.now) →
+        HasOnlyEmptyMatches unicode (view tree.now) }
+    ensures no_loop { (unicode : Bool) (t : Tree) (lo : ℕ) (greedy : Bool) → result ≡ None →
+        view tree.now ≡ repeat t lo spec.no_limit greedy → around.is_atomic ≡ false → IsDefined unicode t →
+        HasNoEmptyMatch unicode t }
 {
     if is_invalid_quantifier(tree) {
         Some(Rule::InvalidQuantifier)

@@ -202,6 +202,7 @@ impl<'a> Work<'a> {
                 style: Style::Lines,
                 has_spans: false,
                 has_each_literal: false,
+                has_facts: false,
                 has_classes,
                 has_trivia: false,
             },
