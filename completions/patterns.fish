@@ -61,7 +61,7 @@ complete -c patterns -n '__fish_seen_subcommand_from lint' -l fix -d 'Fixes repo
 complete -c patterns -n '__fish_seen_subcommand_from lint' -l diff -d 'Writes no file; shows what --fix would change as a patch, which patch -p1 and git apply take, and reports on standard error what would be left'
 complete -c patterns -n '__fish_seen_subcommand_from lint' -l format -x -a 'text json github sarif' -d 'How reports are written: as text, which is the default; as json, like --json; as the workflow commands of github; or as sarif, which is SARIF 2.1.0 [possible values: text, json, github, sarif]'
 complete -c patterns -n '__fish_seen_subcommand_from lint' -l json -d 'Writes JSON, one object per line, to standard output'
-complete -c patterns -n '__fish_seen_subcommand_from lint' -s v -l verbose -d 'Writes which parts of patterns are too large to be searched for backtracking'
+complete -c patterns -n '__fish_seen_subcommand_from lint' -s v -l verbose -d 'Writes which parts of patterns are not searched for backtracking'
 complete -c patterns -n '__fish_seen_subcommand_from lint' -l rules -d 'Lists the rules with an example of each, and reads no file'
 complete -c patterns -n '__fish_seen_subcommand_from lint' -s h -l help -d 'Print help (see a summary with '\''-h'\'')'
 complete -c patterns -n '__fish_seen_subcommand_from format' -l flags -x -d 'The flags to parse under, as letters, or - for none [default: u]'

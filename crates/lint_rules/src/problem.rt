@@ -12,8 +12,9 @@ use patterns_text::octal::Octal;
 use patterns_text::shown::Shown;
 use std::fmt;
 
-/// What is said of a part that was not looked at.
-pub const NOT_SEARCHED: &str = "this part is too large to be searched for backtracking";
+/// What is said of a part that was not searched.
+pub const NOT_SEARCHED: &str =
+    "not searched for backtracking: too large, or with a call or an atomic group";
 
 /// What is wrong with a part of a pattern.
 #[derive(Clone, Copy)]

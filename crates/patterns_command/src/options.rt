@@ -277,8 +277,7 @@ would be left",
     OptionRow {
         id: "verbose",
         short: Some('v'),
-        help: "Writes which parts of patterns are too large to be searched for
-backtracking",
+        help: "Writes which parts of patterns are not searched for backtracking",
         ..FLAG
     },
     OptionRow {

@@ -3,6 +3,7 @@ use crate::branches::Following;
 use crate::captures::missing_captures;
 use crate::escapes::containing_escape;
 use crate::flags::useless_flags;
+use crate::handed_on::is_handed_on;
 use crate::known::Known;
 use crate::neighbours::Neighbour;
 use crate::references::{Ways, follow};
@@ -84,23 +85,31 @@ fn add_differences(
     Ok(())
 }
 
-/// The text on which an engine tries all ways, with this word repeated.
-fn attack_text<'a>(word: &'a [char], attack: &'a Attack) -> AttackText<'a> {
+/// The text on which an engine tries all ways, with this word repeated. `is_handed_on` says whether fancy-regex hands the
+/// part on.
+fn attack_text<'a>(word: &'a [char], attack: &'a Attack, is_handed_on: bool) -> AttackText<'a> {
     AttackText {
         before: attack.before.as_deref(),
         word,
         after: &attack.after,
+        is_handed_on,
     }
 }
 
-/// Reports what is slow.
-fn report_slow<'a>(slow: &'a SlowParts, walk: &mut Walk<'a>) -> Result<(), AllocError> {
+/// Reports what is slow in the pattern that has these nodes, in preorder.
+fn report_slow<'a>(
+    slow: &'a SlowParts,
+    nodes: &[SpannedNode<'_>],
+    walk: &mut Walk<'a>,
+) -> Result<(), AllocError> {
     for repeat in &slow.repeats {
-        let text = attack_text(&repeat.witness.word, &repeat.attack);
+        let handed_on = is_handed_on(nodes, repeat.span);
+        let text = attack_text(&repeat.witness.word, &repeat.attack, handed_on);
         walk.report(repeat.span, Problem::ExponentialBacktracking { text })?;
     }
     for sequence in &slow.sequences {
-        let text = attack_text(&sequence.witness.word, &sequence.attack);
+        let handed_on = is_handed_on(nodes, sequence.span);
+        let text = attack_text(&sequence.witness.word, &sequence.attack, handed_on);
         let degree = sequence.degree;
         walk.report(
             sequence.span,
@@ -138,14 +147,14 @@ fn problems<'a>(
     };
     let mut walk = Walk::new(alloc);
     scan(parsed.root(), &mut walk, about, ROOT, &mut known.classes)?;
-    report_slow(slow, &mut walk)?;
+    let nodes = nodes_of(alloc, parsed)?;
+    report_slow(slow, &nodes, &mut walk)?;
     let mut ways = Ways::new(alloc, tree)?;
     follow(parsed.root(), &mut ways)?;
     ways.add_groups();
     ways.report_unused()?;
     let mut found = walk.found;
     found.extend_from_slice(&ways.walk.found)?;
-    let nodes = nodes_of(alloc, parsed)?;
     let findings = class_findings(alloc, parsed.root(), pattern, &mut known.classes)?;
     add_of_classes(&mut found, &findings, pattern, &nodes)?;
     found.extend_from_slice(&useless_flags(alloc, pattern, &parsed.trivia)?)?;

@@ -9,6 +9,7 @@ mod escapes;
 pub mod find;
 mod fingerprint;
 mod flags;
+mod handed_on;
 pub mod known;
 mod neighbours;
 mod quantifiers;

@@ -109,7 +109,7 @@ pub(crate) fn lint(
     }
     reports.problems(subject, &parsed, chosen, &found)?;
     if chosen.is_verbose {
-        reports.not_searched(subject, &slow.too_large)?;
+        reports.not_searched(subject, &slow.not_searched)?;
     }
     if count_denied(&found, chosen, tally) {
         tally.denied = tally.denied.saturating_add(1);
