@@ -1,6 +1,6 @@
 -- What is known of the matches of a tree's nodes, in the order of its rows, and of a pattern.
 use Rattle.std.proofs.Common.{◌≡◌, ◌⊎◌, inl, inr, ℕ, ◌+◌, ◌*◌, ◌<◌, ◌≤◌, Bool, List, [], ◌∷◌, ◌++◌, length, take, get_or, encode_utf8, encode_utf8_all, Option, refl, ap, sym, subst, ◌∙◌, append-nil, arith}
-use Rattle.std.proofs.Math.Seq.{take-suc}
+use Rattle.std.proofs.lemmas.List.{take_more}
 use Rattle.std.proofs.lemmas.Slice.Zip.{AllZip-long}
 use Rattle.std.proofs.lemmas.Str.{encodes-append}
 use Rattle.std.specs.List.{AllZip}
@@ -83,5 +83,4 @@ character_put old new l i c before here is put =
     ∙ ap (λ b. encode_utf8_all (take i l) ++ b) (sym (append-nil (encode_utf8 c)))
     ∙ sym (encodes-append (take i l) (c ∷ []))
     ∙ ap (λ d. encode_utf8_all (take i l ++ d ∷ [])) is
-    ∙ ap encode_utf8_all (sym (take-suc l i c here))
-    ∙ ap (λ k. encode_utf8_all (take k l)) (omega arith)
+    ∙ ap encode_utf8_all (sym (take_more l i c here))
