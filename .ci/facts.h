@@ -34,7 +34,7 @@ static const facts_by_hand wanted_facts[] = {
     {"(?=^a)", U, "", true, false, 4, {{0, 0, 0, 0, 1, 1, 1, 1, 0}, {1, 1, 1, 1, 1, 0, 1, 1, 0}, {0, 0, 0, 0, 1, 1, 1, 1, 0}, ONE}},
     {"^a", U | FANCY_FLAG_MULTI, "a", true, true, 3, {{1, 1, 1, 1, 1, 0, 1, 0, 0}, {0, 0, 0, 0, 1, 1, 1, 0, 0}, ONE}},
     // a bound of a look-behind
-    {"(?<=a|bc)d", U, "d", true, false, 7, {{1, 1, 1, 1, 1, 0, 1, 0, 0}, {0, 0, 0, 0, 1, 1, 1, 0, 0}, {1, 2, 1, 2, 1, 0, 0, 0, 0}, ONE,
+    {"(?<=a|bc)d", U, "d", true, false, 8, {{1, 1, 1, 1, 1, 0, 1, 0, 0}, {0, 0, 0, 0, 1, 1, 1, 0, 0}, {1, 2, 1, 2, 1, 0, 0, 0, 0}, ONE,
                                             {2, 2, 2, 2, 1, 0, 1, 0, 0}, ONE, ONE, ONE}},
     // lengths that do not fit
     {"(?:a{4294967296}){4294967296}", U, "a", false, true, 3, {{SIZE_MAX, ANY, SIZE_MAX, ANY, 1, 0, 0, 0, 0},
