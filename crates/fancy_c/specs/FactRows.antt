@@ -19,7 +19,7 @@ use Rattle.fancy_c.specs.Node.{listed}
 use Rattle.fancy_c.specs.declared.facts.NodeFacts.{NodeFacts}
 use Rattle.fancy_c.specs.declared.facts.PatternFacts.{PatternFacts}
 
--- the limit as a number: the greatest word if there is none
+-- the limit as a number; without a limit the greatest word
 abbrev pub limit : MaxLength → ℕ
 limit (AtMost n) = n
 limit Unlimited = most
