@@ -23,17 +23,17 @@ use Rattle.fancy_lex.specs.Layout.{to_end, after_backslash, IsComment, IsLineCom
 use Rattle.fancy_lex.specs.LayoutSteps.{comment, line, after_comment_start}
 use Rattle.fancy_lex.specs.Reading.{Reading, gives, fails, choose}
 use Rattle.fancy_lex.specs.Text.{Text, EndsWith, bytes, reach_of}
-use Rattle.fancy_lex.specs.TokenComments.{begins_comment, class_comments, escape_comments, if_inside, token_comments}
-use Rattle.fancy_lex.specs.TokenComments.{token_comments_from}
+use Rattle.fancy_lex.specs.TokenComments.{begins_comment, begins_name, class_comments, escape_comments, if_inside}
+use Rattle.fancy_lex.specs.TokenComments.{token_comments, token_comments_from}
 use Rattle.fancy_lex.specs.declared.flags.Flags.{Flags}
 use Rattle.fancy_lex.proofs.ClassCommentLemmas as class
 use Rattle.fancy_lex.proofs.CommentLaws.{AreUnits, no_more, a_comment, a_line, earlier}
 use Rattle.fancy_lex.proofs.EscapeLaws.{escape_cut, escape_within}
 use Rattle.fancy_lex.proofs.LayoutLaws.{opened_is, snoc, split_comment, split_line}
 use Rattle.fancy_lex.proofs.TextLemmas.{bytes-append, bytes_chars}
-use Rattle.fancy_lex.proofs.TokenCommentLemmas.{after_other, at_end, at_text_end, comment_closed, comment_none, comment_on}
-use Rattle.fancy_lex.proofs.TokenCommentLemmas.{comment_pair, escaped_next, escaped_none, line_closed, line_ends, line_on}
-use Rattle.fancy_lex.proofs.TokenCommentLemmas.{opens, opens_line}
+use Rattle.fancy_lex.proofs.TokenCommentLemmas.{after_other, at_end, at_name, at_text_end, comment_closed, comment_none}
+use Rattle.fancy_lex.proofs.TokenCommentLemmas.{comment_on, comment_pair, escaped_next, escaped_none, line_closed, line_ends}
+use Rattle.fancy_lex.proofs.TokenCommentLemmas.{line_on, opens, opens_line}
 
 -- ---- suffixes of a text
 
@@ -170,9 +170,13 @@ module _ (end : ℕ) (P : Text → List Comment → Type 0) (none : (t : Text) �
             absurd (false≢true (sym (ap (λ o. choose o (λ i. nat_le end (reach_of i)) false) o) ∙ b))
     by_start false b lt = elim (cases_eq c (code "#")) [
       | inl i ↦ at_hash i b lt
-      | inr i ↦ subst (P (c ∷ r)) (sym (after_other end (c ∷ r) c r refl lt b i))
-          (other c r _ i lt (below r (omega arith)))
+      | inr i ↦ by_name i (begins_name c) refl
     ]
+      where
+        by_name : c ≢ code "#" → (n : Bool) → begins_name c ≡ n → P (c ∷ r) (token_comments (c ∷ r) end)
+        by_name i true n = subst (P (c ∷ r)) (sym (at_name end (c ∷ r) c r refl lt b i n)) (none (c ∷ r))
+        by_name i false n =
+            subst (P (c ∷ r)) (sym (after_other end (c ∷ r) c r refl lt b i n)) (other c r _ i lt (below r (omega arith)))
 
     first_step : (b : Bool) → nat_le (reach_of (c ∷ r)) end ≡ b → P (c ∷ r) (token_comments (c ∷ r) end)
     first_step true i = subst (P (c ∷ r)) (sym (at_end end (c ∷ r) (grind (arith, nat_tests)))) (none (c ∷ r))

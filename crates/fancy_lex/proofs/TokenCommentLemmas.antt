@@ -6,7 +6,7 @@ use Prim.Native.Char.{code}
 use Rattle.fancy_lex.specs.Comments.{closed_before, line_before}
 use Rattle.fancy_lex.specs.LayoutSteps.{comment, escaped, line, between, after_comment_start}
 use Rattle.fancy_lex.specs.Text.{Text, reach_of}
-use Rattle.fancy_lex.specs.TokenComments.{begins_comment, if_inside, token_comments, token_comments_from}
+use Rattle.fancy_lex.specs.TokenComments.{begins_comment, begins_name, if_inside, token_comments, token_comments_from}
 
 module _ (e p : ℕ) (t : Text) where
   pub comment_none : t ≡ [] → token_comments_from e comment p t ≡ []
@@ -66,7 +66,7 @@ module _ (e : ℕ) where
       by_test : (b : Bool) → b ≡ true →
           (if b then [] else if begins_comment e (c ∷ r) then token_comments_from e comment (reach_of (c ∷ r)) r
           else if c == code "#" then token_comments_from e line (reach_of (c ∷ r)) r
-          else token_comments r e) ≡ []
+          else if begins_name c then [] else token_comments r e) ≡ []
       by_test true i = refl
       by_test false i = absurd cc
 
@@ -87,15 +87,18 @@ module _ (e : ℕ) where
     next_is : token_comments t e ≡ (if nat_le (reach_of t) e then []
         else if begins_comment e t then token_comments_from e comment (reach_of t) r
         else if c == code "#" then token_comments_from e line (reach_of t) r
-        else token_comments r e)
+        else if begins_name c then [] else token_comments r e)
     unfolding token_comments_from
     next_is = rw i refl
 
     pub opens_line : c ≡ code "#" → token_comments t e ≡ token_comments_from e line (reach_of t) r
     opens_line j = let step = next_is in grind (arith, nat_tests)
 
-    pub after_other : c ≢ code "#" → token_comments t e ≡ token_comments r e
-    after_other j = let step = next_is in grind (arith, nat_tests)
+    pub at_name : c ≢ code "#" → begins_name c ≡ true → token_comments t e ≡ []
+    at_name j k = let step = next_is in grind (arith, nat_tests)
+
+    pub after_other : c ≢ code "#" → begins_name c ≡ false → token_comments t e ≡ token_comments r e
+    after_other j k = let step = next_is in grind (arith, nat_tests)
 
 pub ruleset token_steps = (
   comment_none,
@@ -111,5 +114,6 @@ pub ruleset token_steps = (
   at_text_end,
   opens,
   opens_line,
+  at_name,
   after_other,
 )

@@ -1,5 +1,6 @@
--- The comments in a token: those between the letters of flags, in the braces of a quantifier, in a word boundary, and in
--- the hex codes of escapes and classes. None of these has a `#` of its own, so each `#` begins a comment or is in one.
+-- The comments in a token: those after the parenthesis of a group, between the letters of flags, in the braces of a
+-- quantifier, in a word boundary, and in the hex codes of escapes and classes. None of these has a `#` of its own, so each
+-- `#` begins a comment or is in one. Only a name may have one, and it ends the token: after a name no comment follows.
 use Rattle.std.specs.Prelude.{ℕ, zero, suc, ◌==◌, nat_le, nat_lt, Bool, true, false, if◌then◌else◌, List, [], ◌∷◌, ◌++◌}
 use Prim.Native.Char.{code}
 use Rattle.fancy_lex.specs.Characters.{◌∈◌}
@@ -15,6 +16,10 @@ use Rattle.fancy_lex.specs.declared.flags.Flags.{Flags}
 abbrev pub begins_comment : ℕ → Text → Bool
 begins_comment end t = choose (after_comment_start t) (λ i. nat_le end (reach_of i)) false
 
+-- whether the character begins what may be a name, as in `(?<a>`, `(?'a'` and `(?P=a)`
+abbrev pub begins_name : ℕ → Bool
+begins_name c = c ∈ "<'P"
+
 -- a comment, if it ends in the token, and those after it
 abbrev pub if_inside : ℕ → Comment → List Comment → List Comment
 if_inside end c l = if nat_le end c.end then c ∷ l else []
@@ -27,6 +32,7 @@ token_comments_from end between p (c ∷ t) =
     if nat_le (reach_of (c ∷ t)) end then []
     else if begins_comment end (c ∷ t) then token_comments_from end comment p t
     else if c == code "#" then token_comments_from end line p t
+    else if begins_name c then []
     else token_comments_from end between (reach_of t) t
 token_comments_from end comment p [] = []
 token_comments_from end comment p (c ∷ t) =

@@ -10,6 +10,7 @@ ghost use Rattle.fancy_lex.specs.LayoutSteps.{rest, failed};
 ghost use Rattle.fancy_lex.specs.LayoutSteps.{after_comment_start};
 ghost use Rattle.fancy_lex.specs.TokenComments.{begins_comment, class_comments, if_inside, token_comments};
 ghost use Rattle.fancy_lex.specs.TokenComments.{token_comments_from};
+ghost use Rattle.fancy_lex.specs.TokenComments as tokens;
 ghost use Rattle.fancy_lex.specs.declared.flags.Flags.{Flags};
 ghost use Rattle.fancy_lex.specs.Views.{Skips, skipped_of};
 ghost use Rattle.fancy_lex.specs.Reading.{layout_reading, ReadsRest};
@@ -290,8 +291,15 @@ fn in_token(comment: LayoutComment<'_>, end: Reach) -> Option<LayoutComment<'_>>
     }
 }
 
+/// Whether the character begins what may be a name. In a name a `#` is a character like others.
+fn begins_name(c: char) -> bool
+    ensures { result ≡ tokens.begins_name c }
+{
+    matches!(c, '<' | '\'' | 'P')
+}
+
 /// The first comment in the token at the front of `text` that ends at the reach; none if it has no comment. In the token each
-/// `#` begins a comment, or is in one.
+/// `#` begins a comment, or is in one, but in a name.
 pub fn first_in_token(text: &str, end: Reach) -> Option<LayoutComment<'_>>
     ensures value { MatchOption result (token_comments (chars text.now) end ≡ [])
         (λ c. token_comments (chars text.now) end ≡ comment_of c ∷ token_comments (chars c.rest.now) end) }
@@ -320,6 +328,9 @@ pub fn first_in_token(text: &str, end: Reach) -> Option<LayoutComment<'_>>
                 is_line: true,
             };
             return in_token(found, end);
+        }
+        if begins_name(c) {
+            return None;
         }
         rest = after;
     }

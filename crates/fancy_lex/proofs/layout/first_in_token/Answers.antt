@@ -3,7 +3,7 @@ use Rattle.fancy_lex.specs.Comments.{Comment}
 use Rattle.fancy_lex.specs.CommentViews.{comment_of}
 use Rattle.fancy_lex.specs.TokenComments.{if_inside, token_comments}
 use Rattle.fancy_lex.specs.declared.layout.LayoutComment.{LayoutComment}
-use Rattle.fancy_lex.proofs.TokenCommentLemmas.{after_other, at_end, at_text_end, opens, opens_line}
+use Rattle.fancy_lex.proofs.TokenCommentLemmas.{after_other, at_end, at_name, at_text_end, opens, opens_line}
 use Rattle.fancy_lex.proofs.layout.first_in_token.Goals as goal
 
 -- a comment that is there if it ends in the token, and what follows it
@@ -59,12 +59,18 @@ returns-then-c-eq35-clause-shorter c =
     found_shorter _ _ c.in_token-then-c-eq35.result c.in_token-then-c-eq35.ensures.same
     (omega (arith, c.line.ensures.within, c.in-Some-next.ensures.shorter, c.loop-rest.invariant.within))
 
+pub returns-then-begins_name-clause-value : goal.returns-then-begins_name-clause-value
+returns-then-begins_name-clause-value c =
+    c.loop-rest.invariant.same
+    ∙ at_name _ _ _ _ c.in-Some-next.ensures.value (omega (arith, c.loop-rest-test.true, c.reach.ensures))
+    c.in_default.ensures.value c.if-c-eq35.false (sym c.begins_name.ensures ∙ c.if-begins_name.true)
+
 pub loop-rest-preserved : goal.loop-rest-preserved
 loop-rest-preserved c = record {
   text = search rules;
   same = c.loop-rest.invariant.same
       ∙ after_other _ _ _ _ c.in-Some-next.ensures.value (omega (arith, c.loop-rest-test.true, c.reach.ensures))
-      c.in_default.ensures.value c.if-c-eq35.false;
+      c.in_default.ensures.value c.if-c-eq35.false (sym c.begins_name.ensures ∙ c.if-begins_name.false);
   within = omega (arith, c.loop-rest.invariant.within, c.in-Some-next.ensures.shorter);
 }
 
