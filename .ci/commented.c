@@ -12,7 +12,7 @@
 enum { CAPACITY = 1 << 16, DEEPEST = 4 };
 
 static char pattern[CAPACITY];
-static size_t length, comments;
+static size_t length, comments, names;
 
 static void put(const char *text) {
     size_t size = strlen(text);
@@ -62,11 +62,20 @@ static bool letters(bool is_verbose) {
     return is_verbose;
 }
 
+// The opening of a named group. In its name `#` and `(?#` begin no comment.
+static void name(void) {
+    static const char *const openings[][2] = {{"?<", ">"}, {"?'", "'"}, {"?P<", ">"}};
+    const char *const *opening = openings[below(3)];
+    char text[48];
+    snprintf(text, sizeof text, "%s%s%zu%s", opening[0], below(2) ? "#" : "(?#", names++, opening[1]);
+    put(text);
+}
+
 static void group(bool is_verbose, int depth) {
     static const char *const openings[] = {"", "?:", "?=", "?!", "?<=", "?<!", "?>", "?~", "?~|a|"};
     with_layout("(", is_verbose, "");
     bool inside = is_verbose;
-    size_t kind = below(12);
+    size_t kind = below(14);
     if (kind < sizeof openings / sizeof *openings) {
         put(openings[kind]);
     } else if (kind == 9) {
@@ -79,6 +88,8 @@ static void group(bool is_verbose, int depth) {
         put(below(2) ? "a|b" : "|");
         with_layout("", is_verbose, ")");
         return;
+    } else if (kind > 11) {
+        name();
     } else {
         put("?(");
         alternation(is_verbose, depth + 1);
@@ -159,7 +170,7 @@ int main(int argument_count, char **arguments) {
     for (size_t i = 0; i < count; i++) {
         bool is_verbose = below(2);
         uint32_t flags = FANCY_FLAG_UNICODE | (is_verbose ? FANCY_FLAG_IGNORE_SPACE : 0);
-        length = comments = 0;
+        length = comments = names = 0;
         put("()");
         alternation(is_verbose, 0);
         if (fancy_check(pattern, length, flags).status != FANCY_STATUS_OK) continue;
