@@ -18,8 +18,22 @@ fn is_of_escape(letter: char, c: char) -> bool
     }
 }
 
-/// Both ends of the item if it is a range, and twice the character if it is one, as far as they are written as themselves.
+/// The character that the item is by `\x` and two hexadecimal digits.
+fn of_code(item: &str) -> Option<char> {
+    let digits = item.strip_prefix(r"\x")?;
+    if digits.len() != 2 {
+        return None;
+    }
+    let code = u8::from_str_radix(digits, 16).ok()?;
+    Some(char::from(code))
+}
+
+/// Both ends of the item if it is a range of characters written as themselves, and twice the character if it is one that is
+/// written as itself or by its code.
 fn ends(item: &str) -> Option<(char, char)> {
+    if let Some(c) = of_code(item) {
+        return Some((c, c));
+    }
     let (first, rest) = next(item)?;
     match next(rest) {
         None => Some((first, first)),
