@@ -49,7 +49,7 @@ fn ends(item: &str) -> Option<(char, char)> {
 fn is_within(letter: char, item: &str) -> bool {
     match (letter, item) {
         ('w', r"\d") => true,
-        ('s', r"\t" | r"\n" | r"\v" | r"\f" | r"\r") => true,
+        ('s', r"\t" | r"\n" | r"\v" | r"\f" | r"\r" | r"\x85" | r"\xa0" | r"\xA0") => true,
         _ => match ends(item) {
             Some((first, last)) => is_of_escape(letter, first) && is_of_escape(letter, last),
             None => false,
