@@ -9,6 +9,8 @@ use fancy_syntax::spanned::SpannedNode;
 
 /// The most characters of a range that are looked at.
 const MOST_CHARACTERS: u32 = 1000;
+/// The most bytes of a class in which a range is looked for.
+const MOST_BYTES: usize = 1000;
 
 /// Whether a backslash with this letter contains the character, which is one of ASCII.
 fn is_of_escape(letter: char, c: char) -> bool
@@ -147,6 +149,7 @@ pub(crate) fn is_of_other_case(item: Span, pattern: &str, nodes: &[SpannedNode<'
         return false;
     };
     matches!(class.expr(), Expr::Delegate { casei: true, .. })
+        && source.len() <= MOST_BYTES
         && is_letter_range(part)
         && has_in_other_case(source, part)
 }
