@@ -13,12 +13,13 @@ use Rattle.fancy_grammar.specs.Label as label
 use Rattle.fancy_grammar.specs.Label.{Leaf, Wrap, Row}
 use Rattle.fancy_grammar.specs.Tree.{Tree, Trees, leaf, over, row, no_trees, more_trees, any, literal, delegate}
 use Rattle.fancy_grammar.specs.declared.kinds.LookAround.{LookAround}
+use Rattle.pattern_matches.specs.Defined.{AreDefined}
 use Rattle.pattern_matches.specs.Matches.{Assertions, HasCharacter, IsOneOf, Matches, RowMatches, LeafMatches, WrapMatches, NoneMatch, MoreMatch}
 use Rattle.pattern_matches.specs.Parts.{Position, Parts, One, one, Times, Repeated}
 use Rattle.pattern_matches.proofs.CharacterLemmas.{same_ranges}
 use Rattle.pattern_facts.specs.Known.{is_empty_leaf}
 use Rattle.pattern_facts.specs.Lengths.{row_of}
-use Rattle.pattern_facts.specs.Prefix.{ArePrefixed, HasPrefix, IsOr, IsPrefix, IsPrefixOfSet, IsPrefixed, IsRepeated, IsTaken, IsText, IsTextAndMore, IsThen}
+use Rattle.pattern_facts.specs.Prefix.{ArePrefixed, HasPrefix, IsOr, IsPrefix, IsPrefixOfSet, IsPrefixed, IsRepeated, IsSettled, IsTaken, IsText, IsTextAndMore, IsThen}
 use Rattle.pattern_facts.specs.declared.lengths.ListKind.{ListKind}
 use Rattle.pattern_facts.specs.declared.lengths.ListKind.TheVariants as kind
 use Rattle.pattern_facts.specs.declared.prefix.Prefix.{Prefix}
@@ -491,6 +492,29 @@ prefixed_all u kind.Alt all (Some x) h = record {
   defined = (tt, h.defined tt);
   begins = λ s p q m. elim (h.begins s p q m) [ inl a ↦ a.0 | inr r ↦ absurd r ];
   whole = λ is_all s p q m. elim (h.begins s p q m) [ inl a ↦ a.1 is_all | inr r ↦ absurd r ];
+}
+
+-- a list whose prefix no tree that is left changes
+pub settled : (u : Bool) (k : ListKind) (all rest : Trees) (o : Option Prefix) → IsSettled k o → AreDefined u rest →
+    IsPrefixed u k all rest o → IsPrefix u (row (row_of k) all) o
+settled u k all rest None e d h = absurd e
+settled u kind.Concat all rest (Some x) e d h = record {
+  defined = (tt, h.defined d);
+  begins = λ s p q m. elim (h.begins s p q m) [
+    | inl a ↦ a.1
+    | inr r ↦
+        let more = row_passes u s label.concat rest r.0 q r.2 in
+        then_more x.characters.items more.0 p r.0 q (of_text x.characters.items p r.0 r.1) more.1
+  ];
+  whole = λ is_all s p q m. absurd (false≢true (sym e ∙ is_all));
+}
+settled u kind.Alt all rest (Some x) e d h = record {
+  defined = (tt, h.defined d);
+  begins = λ s p q m. elim (h.begins s p q m) [
+    | inl a ↦ a.0
+    | inr r ↦ begins_as [] x.characters.items p q (sym e.1) (row_passes u s label.alt rest p q r)
+  ];
+  whole = λ is_all s p q m. absurd (false≢true (sym e.0 ∙ is_all));
 }
 
 -- a list of no trees
