@@ -1,5 +1,5 @@
 //! The text that the matches of a node begin with.
-ghost use Rattle.std.specs.Prelude.{◌≡◌, ℕ, ◌≤◌, true, Bool, IfOk, IfSome, nat_eq, length, []};
+ghost use Rattle.std.specs.Prelude.{◌≡◌, ℕ, ◌≤◌, true, Bool, IfOk, IfSome, nat_eq, length, [], ◌∷◌};
 ghost use Rattle.std.specs.List.{AllZip, common_prefix_len};
 ghost use Rattle.class_meaning.specs.CharacterSet.{has_character};
 ghost use Rattle.fancy_grammar.specs.Tree.{Tree, Trees, is_leaf, more_trees, over, row, trees_of};
@@ -14,9 +14,9 @@ ghost use Rattle.pattern_matches.specs.Defined.{AreDefined, IsDefined};
 
 use crate::lengths::ListKind;
 use crate::node_facts::Facts;
-use crate::plain::meaning_of;
+use crate::plain::{bytes_of_node, plain_character};
 use crate::rows::is_empty_leaf;
-use class_meaning::{CharacterSet, ClassMeaning};
+use class_meaning::{CharacterSet, ClassMeaning, characters_of};
 use fancy_syntax::expr::{Expr, Shape, Wrap};
 use std::alloc::{AllocError, Global};
 
@@ -40,6 +40,16 @@ fn nothing(alloc: Global, is_whole: bool) -> Prefix
     }
 }
 
+/// That of a node of which each match is this character.
+fn one(alloc: Global, c: char) -> Result<Prefix, AllocError>
+    ensures { IfOk result (λ x. (x.characters.items ≡ c ∷ []) × (x.is_whole ≡ true)) }
+{
+    Ok(Prefix {
+        characters: vec![in alloc; c]?,
+        is_whole: true,
+    })
+}
+
 /// The character of the set, if it has no other.
 fn only_character(set: &CharacterSet) -> Option<char>
     ensures { IfSome result (λ c. (d : ℕ) → has_character set.now d ≡ true → d ≡ c) }
@@ -56,10 +66,7 @@ fn prefix_of_set(alloc: Global, set: &CharacterSet) -> Result<Prefix, AllocError
     ensures { IfOk result (IsPrefixOfSet set.now) }
 {
     match only_character(set) {
-        Some(c) => Ok(Prefix {
-            characters: vec![in alloc; c]?,
-            is_whole: true,
-        }),
+        Some(c) => one(alloc, c),
         None => Ok(nothing(alloc, false)),
     }
 }
@@ -72,7 +79,13 @@ fn prefix_of_leaf(alloc: Global, node: &Expr, unicode: bool) -> Result<Option<Pr
     if is_empty_leaf(node) {
         return Ok(Some(nothing(alloc, true)));
     }
-    match meaning_of(alloc, node, unicode)? {
+    if let Some(c) = plain_character(node) {
+        return Ok(Some(one(alloc, c)?));
+    }
+    if bytes_of_node(node, unicode).is_some() {
+        return Ok(Some(nothing(alloc, false)));
+    }
+    match characters_of(alloc, node, unicode)? {
         ClassMeaning::Characters(set) => Ok(Some(prefix_of_set(alloc, &set)?)),
         ClassMeaning::Refused(_) | ClassMeaning::NotOneCharacter => Ok(None),
     }
