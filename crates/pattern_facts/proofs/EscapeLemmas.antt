@@ -1,8 +1,9 @@
 -- Dots and classes of one escape: that the engine reads them as one character, and how many bytes that has.
-use Rattle.std.proofs.Common.{◌≡◌, ℕ, ◌<◌, ◌≤◌, Bool, true, false, not, ◌&&◌, nat_le, nat_lt, List, [], ◌∷◌, chars, codes, string_bytes, String, rules, IsSomeAnd, Option, None, Some, inl, arith, refl, sym, ap, ◌∙◌, subst, IfSome, if◌then◌else◌}
+use Rattle.std.proofs.Common.{◌≡◌, ℕ, ◌<◌, ◌≤◌, Bool, true, false, not, ◌&&◌, nat_le, nat_lt, List, chars, codes}
+use Rattle.std.proofs.Common.{string_bytes, String, rules, IsSomeAnd, Option, None, Some, inl, arith, refl, sym, ap}
+use Rattle.std.proofs.Common.{◌∙◌, subst, IfSome, if◌then◌else◌}
 use Rattle.std.proofs.lemmas.Bool.Decides.{nat_tests}
 use Rattle.std.proofs.lemmas.Str.{len_utf8_bounds}
-use Rattle.std.specs.Char.{len_utf8}
 use Rattle.std.specs.declared.alloc.Global.{Global}
 use Rattle.ucd_perl.specs.Perl.{is_digit_char, is_space_char, is_word_char}
 use Rattle.ucd_perl.proofs.Computing.{ucd_perl}
@@ -24,7 +25,6 @@ use Rattle.regex_syntax.proofs.Written.{alone, grammar}
 use Rattle.class_meaning.specs.ClassMeaning.{MatchesOneOf, class_config, dot_config}
 use Rattle.fancy_lex.specs.Text.{text_of}
 use Rattle.fancy_grammar.specs.Label as label
-use Rattle.fancy_grammar.specs.Label.{Leaf}
 use Rattle.fancy_grammar.specs.Tree.{Tree, leaf, over, row, any, delegate}
 use Rattle.fancy_syntax.specs.View.{view}
 use Rattle.fancy_syntax.specs.declared.expr.Expr.{Expr, Any, Delegate, the_lemmas}

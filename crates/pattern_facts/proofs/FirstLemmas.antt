@@ -10,7 +10,7 @@ use Rattle.class_meaning.specs.EnginePattern.{engine_pattern}
 use Rattle.class_meaning.specs.declared.class_text.ClassMeaning.TheVariants.{Characters, NotOneCharacter}
 use Rattle.class_meaning.specs.declared.character_set.CharacterSet.{CharacterSet}
 use Rattle.fancy_grammar.specs.Label as label
-use Rattle.fancy_grammar.specs.Label.{Leaf, Wrap}
+use Rattle.fancy_grammar.specs.Label.{Wrap}
 use Rattle.fancy_grammar.specs.Tree.{Tree, Trees, leaf, over, row, no_trees, more_trees, any, literal, delegate}
 use Rattle.fancy_grammar.specs.declared.kinds.LookAround.{LookAround}
 use Rattle.pattern_matches.specs.Defined.{AreDefined}

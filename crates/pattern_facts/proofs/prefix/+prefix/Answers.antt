@@ -3,7 +3,7 @@ use Rattle.fancy_grammar.specs.Tree.{levels, levels_all, row, trees_of}
 use Rattle.fancy_syntax.proofs.Descents.{levels_item}
 use Rattle.fancy_syntax.proofs.PrintLemmas.{left, left_step, left_end}
 use Rattle.fancy_syntax.specs.View.{view, views}
-use Rattle.pattern_matches.specs.Defined.{AreDefined, IsDefined}
+use Rattle.pattern_matches.specs.Defined.{AreDefined}
 use Rattle.pattern_facts.specs.Prefix.{HasPrefix, IsPrefix, IsPrefixed}
 use Rattle.pattern_facts.specs.Lengths.{row_of}
 use Rattle.pattern_facts.proofs.ListLemmas.{no_trees_in}
