@@ -343,3 +343,6 @@ as ranges, of which only the first are written",
     },
     JSON,
 ];
+
+/// Those of `server`.
+pub(crate) static SERVER_OPTIONS: [OptionRow; 3] = [FLAGS, CONFIG, NO_CONFIG];

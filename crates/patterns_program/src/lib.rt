@@ -7,6 +7,7 @@ mod change;
 mod changes;
 mod check;
 pub mod draw;
+pub mod edited;
 mod groups;
 pub mod job;
 mod lint;

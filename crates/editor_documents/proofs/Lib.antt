@@ -1,0 +1,4 @@
+pub mod ChangeLemmas
+pub mod PlaceLemmas
+pub mod PositionLemmas
+pub mod TextLemmas

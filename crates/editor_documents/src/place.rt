@@ -1,0 +1,106 @@
+//! Places in a text, and the positions that they have.
+ghost use Rattle.std.specs.Prelude.{◌≡◌, ◌+◌, ◌<◌, ◌≤◌, ◌^◌, ◌∷◌, length, drop, chars, true, Some, IfSome, MatchOption};
+ghost use Rattle.editor_documents.specs.Position.{Text, ends_line, next_line, from_position};
+
+use crate::position::{Encoding, Position, after_line_feed, ends_line};
+use crate::text::next;
+
+/// A place in a text, from which one goes on.
+#[derive(Debug, Clone, Copy)]
+pub struct Place<'a> {
+    encoding: Encoding,
+    position: Position,
+    /// The text from the place on.
+    rest: &'a str,
+    ghost lines_fit: { position.line + length rest.now < 2 ^ 64 },
+    ghost units_fit: { position.character + length rest.now < 2 ^ 64 },
+}
+
+/// The text after the end of a line, which this character begins with the text after it.
+fn after_line_end(c: char, after: &str) -> &str
+    requires { ends_line c ≡ true }
+    ensures value { next_line (c ∷ chars after.now) ≡ Some (chars result.now) }
+    ensures within { length result.now ≤ length after.now }
+{
+    if c == '\r' {
+        after_line_feed(after)
+    } else {
+        after
+    }
+}
+
+impl<'a> Place<'a> {
+    ghost use Rattle.editor_documents.specs.Place.{IsPlaceIn};
+
+    /// The start of the text.
+    pub fn start(encoding: Encoding, text: &'a str) -> Place<'a>
+        ensures within { IsPlaceIn (chars text.now) result }
+        ensures rest { result.rest.now ≡ text.now }
+    {
+        let _bytes = text.len();
+        Place {
+            encoding,
+            position: Position {
+                line: 0,
+                character: 0,
+            },
+            rest: text,
+        }
+    }
+
+    /// Its position.
+    pub fn position(self) -> Position
+        ensures { result ≡ self.entry.position }
+    {
+        self.position
+    }
+
+    /// The text from the place on.
+    pub fn rest(self) -> &'a str
+        ensures { result.now ≡ self.entry.rest.now }
+    {
+        self.rest
+    }
+
+    /// The place after the next character, or after the next end of a line; None at the end of the text.
+    fn next(self) -> Option<Place<'a>>
+        ensures within { IfSome result (λ next. (t : Text) → IsPlaceIn t self.entry → IsPlaceIn t next) }
+        ensures shorter { MatchOption result (length self.entry.rest.now ≡ 0) (λ next.
+            length next.rest.now < length self.entry.rest.now) }
+    {
+        let (c, after) = next(self.rest)?;
+        if ends_line(c) {
+            let line = self.position.line + 1;
+            return Some(Place {
+                encoding: self.encoding,
+                position: Position { line, character: 0 },
+                rest: after_line_end(c, after),
+            });
+        }
+        let character = self.position.character + self.encoding.units(c);
+        Some(Place {
+            encoding: self.encoding,
+            position: Position {
+                line: self.position.line,
+                character,
+            },
+            rest: after,
+        })
+    }
+
+    /// The place after so many bytes of the rest; before the character or the end of a line, CR LF, that they end in.
+    pub fn after(self, bytes: usize) -> Place<'a>
+        ensures within { (t : Text) → IsPlaceIn t self.entry → IsPlaceIn t result }
+        ensures reached { length self.entry.rest.now ≤ length result.rest.now + bytes }
+    {
+        let left = self.rest.len().saturating_sub(bytes);
+        let mut place = self;
+        while let Some(next) = place.next() {
+            if next.rest.len() < left {
+                break;
+            }
+            place = next;
+        }
+        place
+    }
+}

@@ -1,0 +1,124 @@
+//! Messages between headers, on streams of bytes.
+ghost use Rattle.std.specs.Prelude.{OnOk};
+ghost use Rattle.std.specs.Io.KnownBytes.{Appends};
+ghost use Rattle.json_rpc.specs.Header.{frame};
+
+use crate::header::{HeaderLine, header_line};
+use std::alloc::{AllocError, Global};
+use std::io;
+use std::io::{BufRead, ErrorKind, Read, Write};
+use thiserror::Error;
+
+/// How many bytes a message may have.
+pub const MAX_LENGTH: usize = 256 << 20;
+
+/// How many bytes a line of a header may have.
+const MAX_LINE: u64 = 4096;
+
+/// How many lines a header may have.
+const MAX_LINES: usize = 64;
+
+/// Why no message is read. What follows in the stream is not read either.
+#[derive(Debug, Drop, Error)]
+pub enum FrameError {
+    /// A call of the system failed.
+    #[error("{0}")]
+    System(io::Error),
+    /// Memory ran out.
+    #[error("out of memory")]
+    Memory,
+    #[error("the stream ends within a message")]
+    Ended,
+    #[error("a line of the header of a message is not a field")]
+    Header,
+    #[error("the header of a message does not say how many bytes it has")]
+    NoLength,
+    #[error("a message of {0} bytes is too long")]
+    TooLong(usize),
+}
+
+impl From<AllocError> for FrameError {
+    fn from(_error: AllocError) -> FrameError {
+        FrameError::Memory
+    }
+}
+
+impl From<io::Error> for FrameError {
+    fn from(error: io::Error) -> FrameError {
+        if error.kind() == ErrorKind::OutOfMemory {
+            return FrameError::Memory;
+        }
+        FrameError::System(error)
+    }
+}
+
+/// Reads a line of a header into the buffer, in the place of what it held: what is before its CR LF; None if the stream ends
+/// before the line.
+fn read_line<'b, R: BufRead>(
+    reader: &mut R,
+    buffer: &'b mut Vec<u8>,
+) -> Result<Option<&'b [u8]>, FrameError> {
+    buffer.clear();
+    if reader.take(MAX_LINE).read_until(b'\n', buffer)? == 0 {
+        return Ok(None);
+    }
+    match buffer.strip_suffix(b"\r\n") {
+        Some(line) => Ok(Some(line)),
+        None if buffer.len() as u64 == MAX_LINE || buffer.ends_with(b"\n") => {
+            Err(FrameError::Header)
+        }
+        None => Err(FrameError::Ended),
+    }
+}
+
+/// Reads a header: how many bytes the message has; None if the stream ends before it.
+fn read_header<R: BufRead>(alloc: Global, reader: &mut R) -> Result<Option<usize>, FrameError> {
+    let mut buffer = Vec::new(alloc);
+    let mut length = None;
+    for number in 0..MAX_LINES {
+        let Some(line) = read_line(reader, &mut buffer)? else {
+            if number == 0 {
+                return Ok(None);
+            }
+            return Err(FrameError::Ended);
+        };
+        match header_line(line) {
+            HeaderLine::End => {
+                return length.map(Some).ok_or(FrameError::NoLength);
+            }
+            HeaderLine::Length(found) => length = Some(found),
+            HeaderLine::Other => {}
+            HeaderLine::Invalid => return Err(FrameError::Header),
+        }
+    }
+    Err(FrameError::Header)
+}
+
+/// Reads a message with its header, and returns the message; None if the stream ends before it.
+pub fn read_message<R: BufRead>(
+    alloc: Global,
+    reader: &mut R,
+) -> Result<Option<Vec<u8>>, FrameError> {
+    let Some(length) = read_header(alloc, reader)? else {
+        return Ok(None);
+    };
+    if length > MAX_LENGTH {
+        return Err(FrameError::TooLong(length));
+    }
+    let mut message = Vec::new(alloc);
+    reader.take(length as u64).read_to_end(&mut message)?;
+    if message.len() < length {
+        return Err(FrameError::Ended);
+    }
+    Ok(Some(message))
+}
+
+/// Writes the message with its header. After an error a part of that may be written.
+pub fn write_message<W: Write>(writer: &mut W, message: &[u8]) -> io::Result<()>
+    ensures { OnOk result (Appends (W.contents writer.old) (W.contents writer.new) (frame message.now)) }
+{
+    let length = message.len();
+    write!(writer, "Content-Length: {length}\r\n\r\n")?;
+    writer.write_all(message)?;
+    writer.flush()
+}

@@ -1,0 +1,210 @@
+//! Documents that are open.
+use crate::uri::path_of;
+use editor_documents::document::Document;
+use editor_documents::position::Encoding;
+use lint_rules::chosen::Chosen;
+use pattern_files::entry::Visitor;
+use pattern_files::form::{FileFormat, NamedFormat};
+use pattern_files::lines::Ending;
+use pattern_files::sources::{STANDARD_INPUT, System};
+use pattern_files::values::keys::Keys;
+use pattern_files::walk::{FileShape, visit};
+use pattern_format::style::Style;
+use pattern_reports::kept::Report;
+use patterns_config::choices::Choices;
+use patterns_config::file_settings::{flags_with, is_form_chosen, keys_with, levels_with};
+use patterns_config::plan::{Plan, PlanRequest};
+use patterns_program::edited::EditedPatterns;
+use patterns_text::error::RunError;
+use std::alloc::{AllocError, Global};
+use std::collections::BTreeMap;
+
+/// What is given for all documents.
+#[derive(Clone, Copy)]
+pub(crate) struct Settings<'a> {
+    pub(crate) alloc: Global,
+    pub(crate) choices: Choices<'a>,
+    /// What positions are counted in.
+    pub(crate) encoding: Encoding,
+    /// How patterns are formatted.
+    pub(crate) style: Style,
+}
+
+/// A document, and how it has patterns.
+#[derive(Drop)]
+pub(crate) struct DocumentSource {
+    pub(crate) document: Document,
+    /// The path of its file; of a document without one the name of the standard input.
+    name: String,
+    /// Its configuration.
+    plan: Plan,
+}
+
+/// A document that is open.
+#[derive(Drop)]
+pub(crate) struct OpenDocument {
+    pub(crate) source: DocumentSource,
+    pub(crate) patterns: EditedPatterns,
+    /// The reports on its patterns, by their texts.
+    pub(crate) reports: BTreeMap<String, Vec<Report>>,
+}
+
+/// How a grammar of TextMate has patterns.
+fn textmate() -> FileFormat<'static> {
+    FileFormat::Values(Keys {
+        has_textmate: true,
+        named: &[],
+        configured: &[],
+    })
+}
+
+/// How a document has patterns, of which the configuration does not say that it is JSON; None if it has none.
+fn form_of(language: &str, name: &str, is_chosen: bool) -> Option<FileFormat<'static>> {
+    match language {
+        "textmate" | "tmlanguage" | "json-tmlanguage" => Some(textmate()),
+        "json" | "jsonc" if name.ends_with(".tmLanguage.json") => { Some(textmate()) }
+        "patterns" | "regex" | "regexp" => Some(FileFormat::Records(Ending::Line)),
+        "plaintext" | "text" if matches!(NamedFormat::of(name), NamedFormat::Lines) => {
+            Some(FileFormat::Records(Ending::Line))
+        }
+        _ if is_chosen => Some(FileFormat::Records(Ending::Line)),
+        _ => None,
+    }
+}
+
+/// The configuration of the file of this name.
+fn plan_of<S: System>(
+    given: Settings<'_>,
+    name: &str,
+    system: &S,
+    err: &mut Vec<u8>,
+) -> Result<Plan, RunError> {
+    let names = [name];
+    let request = PlanRequest {
+        choices: given.choices,
+        names: &names,
+        has_arguments: false,
+        has_no_json: false,
+    };
+    Plan::of(given.alloc, request, system, err)
+}
+
+impl DocumentSource {
+    /// Its text.
+    pub(crate) fn text(&self) -> &str {
+        self.document.text.as_str()
+    }
+
+    /// The flags of its patterns, and the levels of rules.
+    fn patterns(&self, given: Settings<'_>) -> Result<EditedPatterns, AllocError> {
+        let Settings { alloc, choices, .. } = given;
+        let Some(planned) = self.plan.files.first() else {
+            let levels = Chosen::by_default(false);
+            return Ok(EditedPatterns::new(alloc, choices.flags, levels));
+        };
+        let settings = self.plan.settings(alloc, planned)?;
+        let flags = flags_with(choices, &settings);
+        Ok(EditedPatterns::new(alloc, flags, levels_with(choices, &settings)))
+    }
+
+    /// How it has patterns; None if it has none.
+    fn form(&self, given: Settings<'_>) -> Result<Option<FileFormat<'_>>, AllocError> {
+        let Settings { alloc, choices, .. } = given;
+        let Some(planned) = self.plan.files.first() else {
+            return Ok(form_of(self.document.language.as_str(), self.name.as_str(), false));
+        };
+        let settings = self.plan.settings(alloc, planned)?;
+        if let Some(keys) = keys_with(choices, &settings) {
+            return Ok(Some(FileFormat::Values(keys)));
+        }
+        let is_chosen = is_form_chosen(choices, &settings);
+        Ok(form_of(
+            self.document.language.as_str(),
+            self.name.as_str(),
+            is_chosen,
+        ))
+    }
+
+    /// Visits its patterns, which are parsed under these flags.
+    pub(crate) fn visit<V: Visitor>(
+        &self,
+        given: Settings<'_>,
+        flags: u32,
+        visitor: &mut V,
+    ) -> Result<(), RunError> {
+        let Some(form) = self.form(given)? else {
+            return Ok(());
+        };
+        let shape = FileShape {
+            form,
+            flags,
+            has_grammars: true,
+        };
+        let mut reader = self.text().as_bytes();
+        visit(given.alloc, shape, self.name.as_str(), &mut reader, visitor)
+    }
+
+    /// The style of its patterns: one of several lines is not written to lines.
+    pub(crate) fn style(&self, given: Settings<'_>) -> Result<Style, AllocError> {
+        let form = self.form(given)?;
+        Ok(match (given.style, form) {
+            (Style::Verbose { .. }, Some(FileFormat::Records(_))) => Style::Kept,
+            (style, _) => style,
+        })
+    }
+}
+
+/// What a client opens.
+#[derive(Clone, Copy)]
+pub(crate) struct Opened<'a> {
+    pub(crate) uri: &'a str,
+    pub(crate) language: &'a str,
+    pub(crate) version: i64,
+    pub(crate) text: &'a str,
+}
+
+impl OpenDocument {
+    /// A document that is opened. What is wrong with its configuration is written to `err`.
+    pub(crate) fn open<S: System>(
+        given: Settings<'_>,
+        opened: Opened<'_>,
+        system: &S,
+        err: &mut Vec<u8>,
+    ) -> Result<OpenDocument, RunError> {
+        let alloc = given.alloc;
+        let name = match path_of(alloc, opened.uri)? {
+            Some(path) => path,
+            None => String::from_str(alloc, STANDARD_INPUT)?,
+        };
+        let plan = plan_of(given, name.as_str(), system, err)?;
+        let document = Document {
+            language: String::from_str(alloc, opened.language)?,
+            version: opened.version,
+            text: String::from_str(alloc, opened.text)?,
+        };
+        let source = DocumentSource {
+            document,
+            name,
+            plan,
+        };
+        let patterns = source.patterns(given)?;
+        Ok(OpenDocument {
+            source,
+            patterns,
+            reports: BTreeMap::new(alloc),
+        })
+    }
+
+    /// Reads its configuration again. What is wrong with that is written to `err`.
+    pub(crate) fn configure<S: System>(
+        &mut self,
+        given: Settings<'_>,
+        system: &S,
+        err: &mut Vec<u8>,
+    ) -> Result<(), RunError> {
+        self.source.plan = plan_of(given, self.source.name.as_str(), system, err)?;
+        self.patterns = self.source.patterns(given)?;
+        self.reports = BTreeMap::new(given.alloc);
+        Ok(())
+    }
+}

@@ -1,0 +1,74 @@
+//! Documents and parts of them, formatted.
+use crate::document::{OpenDocument, Settings};
+use crate::ranges::{Locator, touches};
+use fancy_syntax::span::Span;
+use json::Writer;
+use pattern_files::entry::{Entry, Unread, Visitor};
+use pattern_format::style::Style;
+use pattern_reports::json_lines::fields::write_text;
+use patterns_program::edited::EditedPatterns;
+use patterns_text::error::RunError;
+
+/// Writes the edits that format the patterns of a part of a document.
+#[derive(Drop)]
+struct FormatWalk<'d> {
+    locator: Locator<'d>,
+    patterns: &'d EditedPatterns,
+    style: Style,
+    /// The part, in byte offsets; None for all.
+    part: Option<Span>,
+    writer: &'d mut Writer,
+}
+
+impl Visitor for FormatWalk<'_> {
+    fn pattern(&mut self, entry: Entry<'_>) -> Result<(), RunError> {
+        let located = self.locator.locate(entry);
+        if self.part.is_some_and(|part| !touches(part, entry.span)) {
+            return Ok(());
+        }
+        let Some(part) = self.patterns.formatted(entry, self.style)? else {
+            return Ok(());
+        };
+        self.writer.begin_object()?;
+        self.writer.key("range")?;
+        located.write_whole(self.writer)?;
+        write_text(self.writer, "newText", part.text.as_str())?;
+        self.writer.end_object()?;
+        Ok(())
+    }
+
+    fn unread(&mut self, _unread: Unread<'_>) -> Result<(), RunError> {
+        Ok(())
+    }
+
+    fn bom(&mut self) -> Result<(), RunError> {
+        Ok(())
+    }
+
+    fn is_done(&self) -> bool {
+        false
+    }
+}
+
+/// Writes the edits that format the patterns of a document, or of a part of it, as a list.
+pub(crate) fn write_formatted(
+    given: Settings<'_>,
+    document: &OpenDocument,
+    part: Option<Span>,
+    writer: &mut Writer,
+) -> Result<(), RunError> {
+    let style = document.source.style(given)?;
+    writer.begin_array()?;
+    let mut walk = FormatWalk {
+        locator: Locator::new(given.encoding, document.source.text()),
+        patterns: &document.patterns,
+        style,
+        part,
+        writer,
+    };
+    document
+        .source
+        .visit(given, document.patterns.flags, &mut walk)?;
+    walk.writer.end_array()?;
+    Ok(())
+}

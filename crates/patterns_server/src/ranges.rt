@@ -1,0 +1,139 @@
+//! Where the patterns of a document are, as the protocol has it.
+use editor_documents::place::Place;
+use editor_documents::position::{Encoding, Position};
+use fancy_syntax::span::Span;
+use json::Writer;
+use pattern_files::entry::Entry;
+use pattern_files::spelling::{SpelledIn, offset_in_contents, offset_in_pattern};
+use pattern_reports::json_lines::fields::write_number;
+use patterns_text::position::Spot;
+use std::alloc::AllocError;
+
+/// Goes through the text of a document from pattern to pattern.
+#[derive(Clone, Copy)]
+pub(crate) struct Locator<'d> {
+    place: Place<'d>,
+    /// How many bytes are before it.
+    offset: usize,
+}
+
+impl<'d> Locator<'d> {
+    /// Before the text.
+    pub(crate) fn new(encoding: Encoding, text: &'d str) -> Locator<'d> {
+        Locator {
+            place: Place::start(encoding, text),
+            offset: 0,
+        }
+    }
+
+    /// Goes on to the pattern of an entry, and returns where that is.
+    pub(crate) fn locate<'s>(&mut self, entry: Entry<'s>) -> Located<'d, 's> {
+        let start = entry.span.start;
+        let bytes = start.saturating_sub(self.offset);
+        self.place = self.place.after(bytes);
+        self.offset = start;
+        Located {
+            place: self.place,
+            entry,
+        }
+    }
+}
+
+/// A pattern of a document.
+#[derive(Clone, Copy)]
+pub(crate) struct Located<'d, 's> {
+    /// Where it begins.
+    place: Place<'d>,
+    pub(crate) entry: Entry<'s>,
+}
+
+impl Located<'_, '_> {
+    /// How its document spells it.
+    fn form(self) -> SpelledIn {
+        match self.entry.spot {
+            Spot::Line(_) => SpelledIn::Lines,
+            Spot::Path { .. } | Spot::Value { .. } | Spot::Source(_) => SpelledIn::Json,
+        }
+    }
+
+    /// How many bytes of its contents are before the byte offset in it.
+    fn inside(self, offset: usize) -> usize {
+        let Entry {
+            contents,
+            pattern,
+            ..
+        } = self.entry;
+        offset_in_contents(self.form(), contents, pattern, offset)
+    }
+
+    /// The part of the document that spells the span of it, in byte offsets.
+    pub(crate) fn bytes(self, span: Span) -> Span {
+        let first = self.entry.span.start;
+        Span {
+            start: first.saturating_add(self.inside(span.start)),
+            end: first.saturating_add(self.inside(span.end)),
+        }
+    }
+
+    /// How many bytes of it are before the byte offset of its document.
+    pub(crate) fn offset(self, offset: usize) -> usize {
+        let Entry {
+            contents,
+            pattern,
+            span,
+            ..
+        } = self.entry;
+        offset_in_pattern(
+            self.form(),
+            contents,
+            pattern,
+            offset.saturating_sub(span.start),
+        )
+    }
+
+    /// Where the span of it starts and ends.
+    pub(crate) fn positions(self, span: Span) -> (Position, Position) {
+        let start = self.place.after(self.inside(span.start));
+        let end = self.place.after(self.inside(span.end));
+        (start.position(), end.position())
+    }
+
+    /// Writes the range of the span of it.
+    pub(crate) fn write_range(self, writer: &mut Writer, span: Span) -> Result<(), AllocError> {
+        let (start, end) = self.positions(span);
+        write_range(writer, start, end)
+    }
+
+    /// Writes the range of all of it.
+    pub(crate) fn write_whole(self, writer: &mut Writer) -> Result<(), AllocError> {
+        let end = self.place.after(self.entry.contents.len());
+        write_range(writer, self.place.position(), end.position())
+    }
+}
+
+/// Writes a position.
+fn write_position(writer: &mut Writer, position: Position) -> Result<(), AllocError> {
+    writer.begin_object()?;
+    write_number(writer, "line", position.line as u64)?;
+    write_number(writer, "character", position.character as u64)?;
+    writer.end_object()
+}
+
+/// Writes a range.
+pub(crate) fn write_range(
+    writer: &mut Writer,
+    start: Position,
+    end: Position,
+) -> Result<(), AllocError> {
+    writer.begin_object()?;
+    writer.key("start")?;
+    write_position(writer, start)?;
+    writer.key("end")?;
+    write_position(writer, end)?;
+    writer.end_object()
+}
+
+/// Whether two parts of a document have a byte or an end in common.
+pub(crate) fn touches(one: Span, other: Span) -> bool {
+    one.start <= other.end && other.start <= one.end
+}
