@@ -1,6 +1,6 @@
 -- The position after a character, and after the end of a line.
 use Rattle.std.proofs.Common.{◌≡◌, ◌≢◌, ◌<◌, ◌≤◌, ◌+◌, ◌-◌, ℕ, zero, suc, Bool, true, false, [], ◌∷◌, Option, Some, None, refl, ap, sym, ◌∙◌, arith}
-use Rattle.std.proofs.Common.{if◌then◌else◌, ◌==◌, ◌||◌, nat_le}
+use Rattle.std.proofs.Common.{if◌then◌else◌, ◌==◌, ◌||◌, nat_le, nat_lt}
 use Rattle.std.specs.Prelude.{option_and_then}
 use Rattle.std.specs.Char.{len_utf8}
 use Rattle.std.proofs.lemmas.Bool.Decides.{nat_tests}
@@ -12,13 +12,24 @@ use Rattle.editor_documents.specs.declared.position.Encoding.TheVariants.{Utf8, 
 use Rattle.editor_documents.specs.declared.position.Position.{Position}
 use Rattle.editor_documents.proofs.PositionLemmas.{line_feed, line_return, line_goes_on, at_start, past_character}
 
+one_or_two : (b : Bool) → 0 < (if b then 1 else 2)
+one_or_two true = omega arith
+one_or_two false = omega arith
+
 pub units_some : (e : Encoding) (c : ℕ) → 0 < units e c
 units_some Utf8 c = omega (arith, (len_utf8_bounds c).0)
-units_some Utf16 c = grind (arith, nat_tests)
+units_some Utf16 c = one_or_two (nat_lt c 0x1_0000)
+
+above : (c : ℕ) → nat_lt c 0x1_0000 ≡ false → 2 ≤ len_utf8 c
+above c h = grind (arith, nat_tests)
+
+within : (c : ℕ) (b : Bool) → nat_lt c 0x1_0000 ≡ b → (if b then 1 else 2) ≤ len_utf8 c
+within c true h = (len_utf8_bounds c).0
+within c false h = above c h
 
 pub units_within : (e : Encoding) (c : ℕ) → units e c ≤ len_utf8 c
 units_within Utf8 c = omega arith
-units_within Utf16 c = grind (arith, nat_tests)
+units_within Utf16 c = within c (nat_lt c 0x1_0000) refl
 
 -- ---- characters of a line
 

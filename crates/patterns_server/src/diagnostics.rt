@@ -12,8 +12,10 @@ use pattern_reports::kept::{PartText, Report};
 use pattern_reports::severity::Severity;
 use patterns_program::edited::EditedPatterns;
 use patterns_text::error::RunError;
+use patterns_text::position::Location;
 use std::alloc::{AllocError, Global};
 use std::collections::BTreeMap;
+use std::fmt::Write;
 use std::mem;
 
 /// The number that the protocol has for how bad it is what is reported.
@@ -100,6 +102,23 @@ fn write_report(
     writer.end_object()
 }
 
+/// What the reports on the pattern of an entry follow from: its text, and what the object around it says of groups.
+fn key_of(alloc: Global, entry: Entry<'_>) -> Result<String, AllocError> {
+    let mut key = String::from_str(alloc, entry.pattern)?;
+    if let Some(rule) = entry.grammar {
+        let refers_to_begin = Location::at(entry.file, entry.spot).refers_to_begin();
+        write!(key, "\0{refers_to_begin}")?;
+        if let Some(groups) = rule.begin_groups {
+            write!(key, " {groups}")?;
+        }
+        for capture in &rule.captures {
+            let name = capture.key.name();
+            write!(key, " {name} {} {}", capture.group, capture.total)?;
+        }
+    }
+    Ok(key)
+}
+
 /// Writes what is reported on the patterns of a document, one after another.
 #[derive(Drop)]
 struct ReportWalk<'d> {
@@ -107,7 +126,7 @@ struct ReportWalk<'d> {
     uri: &'d str,
     locator: Locator<'d>,
     patterns: &'d mut EditedPatterns,
-    /// What was reported before the last change, by the texts of patterns, and what is reported now.
+    /// What was reported before the last change, by what the reports follow from, and what is reported now.
     old: BTreeMap<String, Vec<Report>>,
     new: BTreeMap<String, Vec<Report>>,
     writer: Writer,
@@ -122,11 +141,12 @@ impl ReportWalk<'_> {
         Ok(())
     }
 
-    /// The reports on a pattern that are known, or are now found.
-    fn found(&mut self, entry: Entry<'_>) -> Result<Vec<Report>, RunError> {
-        if entry.grammar.is_none()
-            && let Some(reports) = self.old.remove(entry.pattern)
-        {
+    /// The reports that follow from the key, which are known or are now found.
+    fn found(&mut self, key: &str, entry: Entry<'_>) -> Result<Vec<Report>, RunError> {
+        if let Some(reports) = self.new.remove(key) {
+            return Ok(reports);
+        }
+        if let Some(reports) = self.old.remove(key) {
             return Ok(reports);
         }
         self.patterns.reports(entry)
@@ -136,20 +156,10 @@ impl ReportWalk<'_> {
 impl Visitor for ReportWalk<'_> {
     fn pattern(&mut self, entry: Entry<'_>) -> Result<(), RunError> {
         let located = self.locator.locate(entry);
-        if entry.grammar.is_none()
-            && let Some(reports) = self.new.remove(entry.pattern)
-        {
-            self.write(located, &reports)?;
-            self.new
-                .insert(String::from_str(self.alloc, entry.pattern)?, reports)?;
-            return Ok(());
-        }
-        let reports = self.found(entry)?;
+        let key = key_of(self.alloc, entry)?;
+        let reports = self.found(key.as_str(), entry)?;
         self.write(located, &reports)?;
-        if entry.grammar.is_none() {
-            self.new
-                .insert(String::from_str(self.alloc, entry.pattern)?, reports)?;
-        }
+        self.new.insert(key, reports)?;
         Ok(())
     }
 

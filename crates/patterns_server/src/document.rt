@@ -45,7 +45,7 @@ pub(crate) struct DocumentSource {
 pub(crate) struct OpenDocument {
     pub(crate) source: DocumentSource,
     pub(crate) patterns: EditedPatterns,
-    /// The reports on its patterns, by their texts.
+    /// The reports on its patterns, by what they follow from.
     pub(crate) reports: BTreeMap<String, Vec<Report>>,
 }
 

@@ -1,8 +1,9 @@
 //! What is asked about the part of a pattern at a position.
 use crate::document::{OpenDocument, Settings};
 use crate::named::write_renamed;
-use crate::ranges::{Located, Locator};
+use crate::ranges::{Located, Locator, write_range};
 use class_meaning::characters_of;
+use editor_documents::place::Place;
 use fancy_lex::flags::Flags;
 use fancy_syntax::expr::Expr;
 use fancy_syntax::span::Span;
@@ -335,8 +336,25 @@ impl Visitor for QueryWalk<'_> {
     }
 }
 
-/// Writes the answer to a query about what is at the byte offset of a document, or null where there is no part of a valid
-/// pattern.
+/// Writes the answer where there is no part of a valid pattern: null, or the position as a part.
+fn write_nothing(
+    given: Settings<'_>,
+    text: &str,
+    offset: usize,
+    query: Query<'_>,
+    writer: &mut Writer,
+) -> Result<(), AllocError> {
+    let Query::Selection = query else {
+        return writer.null();
+    };
+    let position = Place::start(given.encoding, text).after(offset).position();
+    writer.begin_object()?;
+    writer.key("range")?;
+    write_range(writer, position, position)?;
+    writer.end_object()
+}
+
+/// Writes the answer to a query about what is at the byte offset of a document.
 pub(crate) fn write_answer(
     given: Settings<'_>,
     uri: &str,
@@ -359,7 +377,7 @@ pub(crate) fn write_answer(
         .source
         .visit(given, document.patterns.flags, &mut walk)?;
     if !walk.is_answered {
-        walk.writer.null()?;
+        write_nothing(given, document.source.text(), offset, query, walk.writer)?;
     }
     Ok(())
 }

@@ -161,17 +161,21 @@ impl<'a, S: System, W: Write> Session<'a, S, W> {
         Ok(Flow::GoOn)
     }
 
-    /// Answers or refuses a request.
+    /// Answers or refuses a request. If memory runs out for the answer, the request is refused.
     fn take_request(
         &mut self,
         id: Id<'_>,
         method: &str,
         params: Option<&Value<'_>>,
     ) -> Result<(), RunError> {
-        match decision_on(self.stage, Method::named(method)) {
+        let done = match decision_on(self.stage, Method::named(method)) {
             Decision::Begin => self.initialize(id, params),
             Decision::Answer(method) => self.answer(id, method, params),
             Decision::Refuse(code) => self.refuse(Some(id), code, reason_of(code)),
+        };
+        match done {
+            Err(RunError::Memory(_)) => self.refuse(Some(id), ErrorCode::Internal, "out of memory"),
+            done => done,
         }
     }
 
@@ -195,16 +199,12 @@ impl<'a, S: System, W: Write> Session<'a, S, W> {
         params: Option<&Value<'_>>,
     ) -> Result<(), RunError> {
         let mut writer = begin_answer(self.given.alloc, id)?;
-        match self.write_result(method, params, &mut writer) {
-            Ok(Ok(())) => {
+        match self.write_result(method, params, &mut writer)? {
+            Ok(()) => {
                 let message = finish(writer)?;
                 self.send(&message)
             }
-            Ok(Err(Refused { code, reason })) => self.refuse(Some(id), code, reason),
-            Err(RunError::Memory(_)) => {
-                self.refuse(Some(id), ErrorCode::Internal, "out of memory")
-            }
-            Err(error) => Err(error),
+            Err(Refused { code, reason }) => self.refuse(Some(id), code, reason),
         }
     }
 
