@@ -14,12 +14,13 @@ import importlib.util
 import json
 import os
 import shlex
+import shutil
 import subprocess
 import sys
 import tempfile
 from functools import partial
 from pathlib import Path
-from typing import Iterator, NamedTuple
+from typing import Iterator, NamedTuple, Optional
 
 from programs import TOP, Check, Output, all_of, decoded, encoded, path_of
 from tables import rows, run_of
@@ -91,6 +92,38 @@ def changed_files() -> Iterator[Check]:
     yield Check("a read-only file with --fix", partial(changed_file, options, "a|a", "lint", "--fix", mode=0o440), wanted)
 
 
+# ---- patches
+
+PATCHING = [it for it in (("patch", "-p1", "--silent"), ("git", "apply", "--whitespace=nowarn")) if shutil.which(it[0])]
+
+
+def patched(file: Path, tool: tuple, patch: bytes) -> Output:
+    """What a tool makes of a file by a patch."""
+    env = {**os.environ, "GIT_CEILING_DIRECTORIES": str(file.parent.parent)}
+    got = subprocess.run(tool, cwd=file.parent, input=patch, capture_output=True, env=env, check=False)
+    return Output(decoded(file.read_bytes()), decoded(got.stdout + got.stderr), got.returncode)
+
+
+def patched_file(options: str, text: str, words: tuple, tool: tuple) -> Output:
+    """What a tool makes of a file with the text by what the words and options write."""
+    with tempfile.TemporaryDirectory() as name:
+        file = Path(name) / "file"
+        file.write_bytes(encoded(text))
+        command = [path_of("patterns"), *words, "--quiet", *options.split(), "file"]
+        got = subprocess.run(command, cwd=name, capture_output=True, check=False)
+        return patched(file, tool, got.stdout)
+
+
+def patched_files() -> Iterator[Check]:
+    """The texts of fixes.tsv and formats.tsv that change, as files to which the patch is applied."""
+    for change, (options, text, fixed) in ((it, cells) for it in CHANGES for cells in rows(it.table)):
+        for tool in PATCHING if text != fixed else ():
+            run = partial(patched_file, options, json.loads(text), change.showing, tool)
+            yield Check(f"{change.table}: {tool[0]}: {options}: {text}", run, all_of(0, json.loads(fixed), ""))
+
+
+# ---- names
+
 CHANGING = b"a{0,1}|a{0,1}"
 
 
@@ -132,9 +165,11 @@ def records_of(name: str, folder: Path) -> list:
     return [json.loads(line) for line in found.stdout.splitlines()]
 
 
-def changed_source(name: str, text: str, words: tuple, shift: int = 0, is_spelled: bool = True) -> Output:
-    """What the words make of a source, with the records that are found in it; `shift` is added to the offsets of their
-    literals, and without `is_spelled` they have none."""
+def changed_source(
+    name: str, text: str, words: tuple, shift: int = 0, is_spelled: bool = True, tool: Optional[tuple] = None,
+) -> Output:
+    """What the words make of a source, with the records that are found in it, or the tool by the patch that they write; `shift` is
+    added to the offsets of their literals, and without `is_spelled` they have none."""
     with tempfile.TemporaryDirectory() as folder:
         source = Path(folder) / name
         source.write_bytes(encoded(text))
@@ -146,7 +181,18 @@ def changed_source(name: str, text: str, words: tuple, shift: int = 0, is_spelle
         lines = "".join(json.dumps(it) + "\n" for it in records)
         command = [path_of("patterns"), *words]
         got = subprocess.run(command, cwd=folder, input=encoded(lines), capture_output=True, check=False)
+        if tool:
+            return patched(source, tool, got.stdout)
         return Output(decoded(source.read_bytes()), decoded(got.stderr), got.returncode)
+
+
+def patched_sources(table: str, name: str, texts: tuple, words: tuple) -> Iterator[Check]:
+    """A source that changes from the first text to the second, to which the patch is applied."""
+    text, fixed = texts
+    showing = (words[0], "--diff", *words[2:])
+    for tool in PATCHING if text != fixed else ():
+        run = partial(changed_source, name, json.loads(text), showing, tool=tool)
+        yield Check(f"{table}: {tool[0]}: {name}: {text}", run, all_of(0, json.loads(fixed), ""))
 
 
 def changed_sources() -> Iterator[Check]:
@@ -156,6 +202,7 @@ def changed_sources() -> Iterator[Check]:
             if HAS_YAML or not name.endswith(".yaml"):
                 run = partial(changed_source, name, json.loads(text), words)
                 yield Check(f"{table}: {name}: {text}", run, all_of(0, json.loads(fixed), ""))
+                yield from patched_sources(table, name, (text, fixed), words)
     for options, name, text, said in rows("kept_sources.tsv"):
         if HAS_YAML or not name.endswith(".yaml"):
             run = partial(changed_source, name, json.loads(text), (*WRITING, *options.split()))
@@ -174,4 +221,4 @@ def other_records() -> Iterator[Check]:
 
 def parts() -> dict:
     """The checks of the tables."""
-    return {it.__name__: list(it()) for it in (changed_texts, changed_files, named_files, changed_sources, other_records)}
+    return {it.__name__: list(it()) for it in (changed_texts, changed_files, patched_files, named_files, changed_sources, other_records)}

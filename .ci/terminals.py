@@ -22,7 +22,7 @@ from tables import FILES
 END = b"\0end"
 ERASED = "\r\x1b[K"
 SHOWN = "\x1b[?7l\r0 of 1 file, 2,048 patterns\x1b[K\x1b[?7h" + ERASED
-SECOND = "\x1b[?7l\r1 of 2 files, 10 patterns\x1b[K\x1b[?7h" + ERASED
+SECOND = "\x1b[?7l\r1 of 2 files, 10 patterns, 50%, about N s left\x1b[K\x1b[?7h" + ERASED
 COUNTED = "2,049 patterns, 1 refused\n"
 BOLD = ("\x1b[1m-:2049:2:\x1b[0m Opening parenthesis without closing parenthesis\n"
         "(\n\x1b[1m-\x1b[0m\x1b[1;31m^\x1b[0m\n\x1b[1mopened here\x1b[0m\n")
@@ -100,9 +100,9 @@ def all_read(reader: int, writer: int) -> str:
 
 
 def last_shown(got: Output) -> str:
-    """All that comes of a run. A slow one may show the line more than once: the last time counts."""
+    """All that comes of a run, with N seconds left. A slow one may show the line more than once: the last time counts."""
     shown = re.sub(r"(\x1b\[\?7l\r\d of [^\r]*)+(?=\x1b\[\?7l\r\d of)", "", got.err)
-    return json.dumps([got.status, got.out, shown], indent=1)
+    return json.dumps([got.status, got.out, re.sub(r"about \d+ s left", "about N s left", shown)], indent=1)
 
 
 def screen_of(text: str, columns: int) -> str:

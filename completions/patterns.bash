@@ -8,7 +8,7 @@ _patterns() {
     case $before in
         --color) mapfile -t COMPREPLY < <(compgen -W 'auto always never' -- "$word") && return ;;
         --format) mapfile -t COMPREPLY < <(compgen -W 'text json github sarif' -- "$word") && return ;;
-        --allow | --warn | --deny) mapfile -t COMPREPLY < <(compgen -W 'missing-group missing-condition-group missing-begin-group missing-capture-group useless-backreference unresolved-call numbered-reference duplicate-group-name unused-capturing-group duplicate-branch unreachable-branch empty-branch quantified-assertion empty-loop invalid-quantifier useless-quantifier zero-quantifier exponential-backtracking polynomial-backtracking useless-flag single-character-class invalid-class empty-class duplicate-characters suspicious-class suspicious-range subsumed-branch dialect-difference all' -- "$word") && return ;;
+        --allow | --warn | --deny) mapfile -t COMPREPLY < <(compgen -W 'missing-group missing-condition-group missing-begin-group missing-capture-group useless-backreference unresolved-call numbered-reference duplicate-group-name unused-capturing-group duplicate-branch unreachable-branch unused-escape empty-branch quantified-assertion impossible-assertion useless-look-around empty-loop lazy-at-end invalid-quantifier useless-quantifier zero-quantifier exponential-backtracking polynomial-backtracking useless-flag single-character-class invalid-class empty-class duplicate-characters characters-in-escape suspicious-class suspicious-range subsumed-branch dialect-difference all' -- "$word") && return ;;
         --flags | -e | --regexp | --keys | --width | --max-warnings) return ;;
     esac
     case ${COMP_WORDS[1]} in

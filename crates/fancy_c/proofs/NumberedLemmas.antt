@@ -1,12 +1,15 @@
 -- Groups get their numbers, one row after another.
 use Rattle.std.proofs.Common.{◌≡◌, ℕ, zero, suc, ◌+◌, ◌<◌, ◌≤◌, List, [], ◌∷◌, ◌++◌, length, take, drop, set, get_or, refl}
+use Rattle.std.proofs.Common.{◌≢◌, if◌then◌else◌}
+use Rattle.std.proofs.lemmas.Bool.{eq-eqb, ne_eqb}
 use Rattle.std.proofs.Common.{sym, ap, ◌∙◌, zero-add, arith}
 use Rattle.std.proofs.Math.Seq.{drop-append_seam, paste}
-use Rattle.std.proofs.lemmas.List.{get_or-take, get_or-drop, length-take-le, take_all, take-append-le, take_more}
+use Rattle.std.proofs.lemmas.List.{set-get_or, get_or-take, get_or-drop, length-take-le, take_all, take-append-le, take_more}
 use Rattle.std.proofs.lemmas.List.Edits.{drop-paste, paste_more, paste_all}
 use Rattle.fancy_c.specs.Buffer.{put_at}
 use Rattle.fancy_c.specs.Numbered.{numbered, numbered_row, groups_through}
 use Rattle.fancy_c.specs.declared.node.Node.{Node}
+use Rattle.fancy_c.specs.declared.node.TheConstants.{NODE_GROUP}
 
 -- how many groups there are through these rows, if there are g before them
 abbrev pub groups_in : ℕ → List Node → ℕ
@@ -26,6 +29,18 @@ numbered_get g (r ∷ rs) (suc i) d h = numbered_get (groups_through g r) rs i d
 groups_in_last : (g : ℕ) (rs : List Node) (r : Node) → groups_in g (rs ++ r ∷ []) ≡ groups_through (groups_in g rs) r
 groups_in_last g [] r = refl
 groups_in_last g (x ∷ xs) r = groups_in_last (groups_through g x) xs r
+
+numbered_group : (g : ℕ) (r : Node) → r.kind ≡ NODE_GROUP → numbered_row g r ≡ record r { group = g + 1 }
+numbered_group g r is = ap (λ b. if b then record r { group = g + 1 } else r) (eq-eqb r.kind NODE_GROUP is)
+
+numbered_other : (g : ℕ) (r : Node) → r.kind ≢ NODE_GROUP → numbered_row g r ≡ r
+numbered_other g r other = ap (λ b. if b then record r { group = g + 1 } else r) (ne_eqb r.kind NODE_GROUP other)
+
+through_group : (g : ℕ) (r : Node) → r.kind ≡ NODE_GROUP → groups_through g r ≡ g + 1
+through_group g r is = ap (λ b. if b then g + 1 else g) (eq-eqb r.kind NODE_GROUP is)
+
+through_other : (g : ℕ) (r : Node) → r.kind ≢ NODE_GROUP → groups_through g r ≡ g
+through_other g r other = ap (λ b. if b then g + 1 else g) (ne_eqb r.kind NODE_GROUP other)
 
 -- rows of which the first i have their numbers, and i rows have so many groups
 pub record Numbering (nodes₀ nodes : List Node) (count i groups : ℕ) : Type 0 where
@@ -52,7 +67,7 @@ numbering_row nodes₀ nodes count i groups z capacity here p =
     ∙ unwritten nodes₀ (numbered 0 rows) i z (omega (arith, size, here, numbered_length 0 rows))
     ∙ sym (get_or-take count nodes₀ i z here)
 
-pub numbering_next : (nodes₀ nodes nodes' : List Node) (count i groups groups' : ℕ) (z : Node) →
+numbering_next : (nodes₀ nodes nodes' : List Node) (count i groups groups' : ℕ) (z : Node) →
     count ≤ length nodes₀ → i < count → Numbering nodes₀ nodes count i groups →
     nodes' ≡ set nodes i (numbered_row groups (get_or nodes i z)) → groups' ≡ groups_through groups (get_or nodes i z) →
     groups' ≤ groups + 1 → Numbering nodes₀ nodes' count (i + 1) groups'
@@ -79,6 +94,25 @@ numbering_next nodes₀ nodes nodes' count i groups groups' z capacity here p pu
           ∙ ap (groups_in 0) (sym (take_more rows i z inside));
       few = omega (arith, few, p.few);
     }
+
+pub numbering_group : (nodes₀ nodes nodes' : List Node) (count i groups groups' : ℕ) (z : Node) →
+    count ≤ length nodes₀ → i < count → Numbering nodes₀ nodes count i groups → (get_or nodes i z).kind ≡ NODE_GROUP →
+    nodes' ≡ set nodes i (record (get_or nodes i z) { group = groups + 1 }) → groups' ≡ groups + 1 →
+    Numbering nodes₀ nodes' count (i + 1) groups'
+numbering_group nodes₀ nodes nodes' count i groups groups' z capacity here p is put more =
+    let r = get_or nodes i z in
+    numbering_next nodes₀ nodes nodes' count i groups groups' z capacity here p
+    (put ∙ ap (set nodes i) (sym (numbered_group groups r is))) (more ∙ sym (through_group groups r is))
+    (omega (arith, more))
+
+pub numbering_other : (nodes₀ nodes nodes' : List Node) (count i groups groups' : ℕ) (z : Node) →
+    count ≤ length nodes₀ → i < count → Numbering nodes₀ nodes count i groups → (get_or nodes i z).kind ≢ NODE_GROUP →
+    nodes' ≡ nodes → groups' ≡ groups → Numbering nodes₀ nodes' count (i + 1) groups'
+numbering_other nodes₀ nodes nodes' count i groups groups' z capacity here p other same few =
+    let r = get_or nodes i z in
+    numbering_next nodes₀ nodes nodes' count i groups groups' z capacity here p
+    (same ∙ sym (set-get_or nodes i z) ∙ ap (set nodes i) (sym (numbered_other groups r other)))
+    (few ∙ sym (through_other groups r other)) (omega (arith, few))
 
 pub numbering_ends : (nodes₀ nodes : List Node) (count i groups : ℕ) → count ≤ length nodes₀ → i ≡ count →
     Numbering nodes₀ nodes count i groups → nodes ≡ put_at nodes₀ 0 (numbered 0 (take count nodes₀))

@@ -1,5 +1,5 @@
 -- Rows of a tree, written one after another.
-use Rattle.std.proofs.Common.{◌≡◌, ℕ, suc, ◌+◌, ◌<◌, ◌≤◌, List, [], ◌∷◌, ◌++◌, length, take, drop, set, refl, sym}
+use Rattle.std.proofs.Common.{◌≡◌, ℕ, suc, ◌+◌, ◌<◌, ◌≤◌, List, [], ◌∷◌, ◌++◌, length, take, drop, set, get_or, refl, sym}
 use Rattle.std.proofs.Common.{ap, subst, ◌∙◌, append_assoc, append-nil, length-append, arith}
 use Rattle.std.proofs.Math.Seq.{drop-append_seam}
 use Rattle.std.proofs.lemmas.List.{set_split, take_all, take-append-le, take-take, length-take-le}
@@ -74,6 +74,9 @@ put_more d i j xs ys is capacity =
     ∙ ap (λ n. paste d i (xs ++ ys) n) (sym (length-append xs ys))
     ∙ sym (put_is d i (xs ++ ys))
 
+pub put_nothing : {A : Type 0} (d xs : List A) (i : ℕ) → xs ≡ [] → d ≡ put_at d i xs
+put_nothing d xs i none = sym (put_none d i) ∙ ap (put_at d i) (sym none)
+
 -- an item before what was put
 pub put_before : {A : Type 0} (d : List A) (i : ℕ) (x : A) (xs : List A) → i + 1 + length xs ≤ length d →
     set (put_at d (i + 1) xs) i x ≡ put_at d i (x ∷ xs)
@@ -97,6 +100,16 @@ put_before d i x xs capacity =
     ∙ ap (λ l. take i d ++ x ∷ (xs ++ l)) same
     ∙ sym (append_assoc (take i d) (x ∷ xs) (drop (i + length (x ∷ xs)) d))
 
+put_one : {A : Type 0} (d : List A) (i : ℕ) (x : A) → i + 1 ≤ length d → set d i x ≡ put_at d i (x ∷ [])
+put_one d i x capacity =
+    ap (λ l. set l i x) (put_nothing d [] (i + 1) refl) ∙ put_before d i x [] (omega (arith, capacity))
+
+pub put_first : {A : Type 0} (d xs : List A) (i : ℕ) (z : A) → length xs ≡ 1 → i + 1 ≤ length d →
+    set d i (get_or xs 0 z) ≡ put_at d i xs
+put_first d [] i z size capacity = absurd (omega (arith, size))
+put_first d (x ∷ []) i z size capacity = put_one d i x capacity
+put_first d (x ∷ y ∷ xs) i z size capacity = absurd (omega (arith, size))
+
 -- ---- a tree is written: its text, its children, and then its row
 
 pub listed_length : (t : Tree) → length (listed t) ≡ 1 + length (listed_each (children t))
@@ -107,6 +120,19 @@ texts_is t = ap texts (listed_is t)
 
 pub texts_size : (t : Tree) → length (texts (listed t)) ≡ length (carried t) + length (texts (listed_each (children t)))
 texts_size t = ap length (texts_is t) ∙ length-append (carried t) (texts (listed_each (children t)))
+
+-- a node without children
+leaf_listed : (t : Tree) → children t ≡ [] → listed t ≡ t ∷ []
+leaf_listed t childless = listed_is t ∙ ap (λ ts. t ∷ listed_each ts) childless
+
+pub leaf_length : (t : Tree) → children t ≡ [] → length (listed t) ≡ 1
+leaf_length t childless = ap length (leaf_listed t childless)
+
+pub leaf_texts : (t : Tree) → children t ≡ [] → texts (listed t) ≡ carried t
+leaf_texts t childless = ap texts (leaf_listed t childless) ∙ append-nil (carried t)
+
+pub leaf_size : (t : Tree) → children t ≡ [] → length (texts (listed t)) ≡ length (carried t)
+leaf_size t childless = ap length (leaf_texts t childless)
 
 -- the position after the text
 pub text_position : (w v : List ℕ) (o p : ℕ) → w ≡ v → p ≡ o + length w → p ≡ o + length v
@@ -127,6 +153,16 @@ row_put at t nodes nodes' n o b p end start capacity put =
     ∙ ap (λ e. put_at nodes n (row (record { end = e; text = p; span = at n }) t ∷ inside)) end_is
     ∙ ap (λ q. put_at nodes n (row (record { end = n + length (listed t); text = q; span = at n }) t ∷ inside)) start
     ∙ ap (λ l. put_at nodes n (rows at n o l)) (sym (listed_is t))
+
+pub leaf_put : (at : SpanAt) (t : Tree) (nodes : List Node) (n o b p : ℕ) → children t ≡ [] → b ≡ n + 1 →
+    p ≡ start_of_text o (carried t) → n + length (listed t) ≤ length nodes →
+    set nodes n (row (record { end = b; text = p; span = at n }) t) ≡ put_at nodes n (rows at n o (listed t))
+leaf_put at t nodes n o b p childless end start capacity =
+    let none : listed_each (children t) ≡ [] = ap listed_each childless in
+    let no_rows : length (listed_each (children t)) ≡ 0 = ap length none in
+    row_put at t nodes nodes n o b p (omega (arith, end, no_rows)) start capacity
+    (put_nothing nodes (rows at (n + 1) (o + length (carried t)) (listed_each (children t))) (n + 1)
+    (ap (rows at (n + 1) (o + length (carried t))) none))
 
 pub text_put : (t : Tree) (bytes bytes' bytes'' : List ℕ) (o p : ℕ) → p ≡ o + length (carried t) →
     o + length (texts (listed t)) ≤ length bytes

@@ -440,6 +440,7 @@ impl NodeLocation {
     }
 
     /// The row of a node for a caller in C.
+    #[inline(always)]
     pub(crate) fn row(self, tree: &Expr) -> Node
         ensures { result ≡ spec.row self (view tree.now) }
     {

@@ -23,6 +23,7 @@ default_level is_json rule.NumberedReference = Deny
 default_level is_json rule.InvalidQuantifier = Deny
 default_level is_json rule.InvalidClass = Deny
 default_level is_json rule.UnusedCapturingGroup = Allow
+default_level is_json rule.CharactersInEscape = Allow
 default_level is_json rule.SuspiciousRange = Allow
 default_level is_json rule.DialectDifference = Allow
 default_level is_json rule.PolynomialBacktracking = Allow

@@ -3,5 +3,6 @@
 
 pub mod attack_text;
 pub mod chosen;
+pub mod message;
 pub mod problem;
 pub mod rule;

@@ -1,5 +1,6 @@
 //! What `lint` finds in a pattern.
 use crate::attack_text::AttackText;
+use crate::message::Message;
 use crate::rule::Rule;
 use class_rules::class_problem::{ClassFinding, ClassLook, ClassProblem};
 use dialects::difference::Difference;
@@ -8,6 +9,7 @@ use patterns_text::excerpt::{Label, Related};
 use patterns_text::grammar_rule::CaptureKey;
 use patterns_text::names::Named;
 use patterns_text::octal::Octal;
+use patterns_text::shown::Shown;
 use std::fmt;
 
 /// What is said of a part that was not looked at.
@@ -43,6 +45,8 @@ pub enum Problem<'a> {
     UselessBackreference {
         group: Named<'a>,
     },
+    /// A back reference to group 0.
+    GroupZero,
     /// A call that refers to no group.
     UnresolvedCall,
     /// A reference by a number where groups without a name are ignored.
@@ -63,6 +67,10 @@ pub enum Problem<'a> {
     UnreachableBranch {
         earlier: usize,
     },
+    /// An escape of which an earlier branch matches the backslash.
+    UnusedEscape {
+        earlier: usize,
+    },
     /// A repeat that can match a text in exponentially many ways.
     ExponentialBacktracking {
         text: AttackText<'a>,
@@ -76,7 +84,10 @@ pub enum Problem<'a> {
     UselessFlag {
         letter: char,
     },
-    SingleCharacterClass,
+    /// An item of a class that a backslash with this letter contains already.
+    CharactersInEscape {
+        escape: char,
+    },
     /// What is wrong with a class or a branch of one character.
     Class(ClassProblem),
     /// What other dialects read otherwise.
@@ -113,20 +124,22 @@ pub struct Found<'a> {
 
 /// What to do about a problem.
 #[derive(Clone, Copy)]
-pub enum Help {
+pub enum Help<'a> {
     /// What its rule says.
     Rule(&'static str),
     /// About a reference that is the octal code of a character in other dialects.
     Octal(Octal),
     /// About a back reference to group 0.
     WholePattern,
+    /// About `[^..]{0}`, with these items in the class.
+    NotBefore { items: &'a str },
     /// About a class that is likely meant as something else.
     Class(ClassLook),
     /// About what other dialects read otherwise.
     Dialect(Difference),
 }
 
-impl fmt::Display for Help {
+impl fmt::Display for Help<'_> {
     fn fmt<W: fmt::Write>(&self, f: &mut fmt::Formatter<W>) -> fmt::Result {
         match self {
             Help::Rule(text) => f.write_str(text),
@@ -134,10 +147,20 @@ impl fmt::Display for Help {
             Help::WholePattern => {
                 f.write_str(r"group 0 is the whole match: write `\g<0>` to call the whole pattern")
             }
+            Help::NotBefore { items } => write!(
+                f,
+                "remove the quantifier with its operand, or did you mean `(?<!{})`?",
+                Shown(items)
+            ),
             Help::Class(look) => f.write_str(look.advice()),
             Help::Dialect(difference) => f.write_str(difference.advice()),
         }
     }
+}
+
+/// The items of a negated class that is repeated zero times, which is all of the text.
+fn negated_class(text: &str) -> Option<&str> {
+    text.strip_prefix("[^")?.strip_suffix("]{0}")
 }
 
 /// The digits of a back reference that is a backslash and a number that begins with 0.
@@ -176,6 +199,7 @@ impl<'a> Found<'a> {
         match self.problem {
             Problem::MissingGroup { .. }
             | Problem::NumberedReference
+            | Problem::GroupZero
             | Problem::UselessBackreference { .. } => {
                 is_of_digits(self.span.text(pattern).unwrap_or(""))
             }
@@ -184,22 +208,36 @@ impl<'a> Found<'a> {
     }
 
     /// What to do about it.
-    pub fn help(&self, pattern: &str) -> Help {
+    pub fn help(&self, pattern: &'a str) -> Help<'a> {
         let rule = Help::Rule(self.problem.rule().row().help);
+        let text = self.span.text(pattern).unwrap_or("");
         match self.problem {
-            Problem::MissingGroup { .. } | Problem::UselessBackreference { .. } => {
-                let text = self.span.text(pattern).unwrap_or("");
-                match (octal_digits(text), self.problem) {
-                    (Some(digits), _) => Help::Octal(Octal::of(digits)),
-                    (None, Problem::UselessBackreference { group }) if group.number() == 0 => {
-                        Help::WholePattern
-                    }
-                    (None, _) => rule,
-                }
-            }
+            Problem::MissingGroup { .. }
+            | Problem::UselessBackreference { .. }
+            | Problem::GroupZero => match (octal_digits(text), self.problem) {
+                (Some(digits), _) => Help::Octal(Octal::of(digits)),
+                (None, Problem::GroupZero) => Help::WholePattern,
+                (None, _) => rule,
+            },
+            Problem::Plain(Rule::ZeroQuantifier) => match negated_class(text) {
+                Some(items) => Help::NotBefore { items },
+                None => rule,
+            },
             Problem::Class(ClassProblem::SuspiciousClass(look)) => Help::Class(look),
             Problem::DialectDifference { difference } => Help::Dialect(difference),
             _ => rule,
+        }
+    }
+
+    /// The message of its report, in a pattern in which it is found.
+    pub fn message(&self, pattern: &'a str) -> Message<'a> {
+        Message {
+            problem: self.problem,
+            text: self.span.text(pattern).unwrap_or(""),
+            related: self
+                .related
+                .and_then(|related| related.span.text(pattern))
+                .unwrap_or(""),
         }
     }
 }
@@ -208,9 +246,9 @@ impl Problem<'_> {
     /// The number of the earlier branch that it names.
     pub fn earlier_branch(self) -> Option<usize> {
         match self {
-            Problem::DuplicateBranch { earlier } | Problem::UnreachableBranch { earlier } => {
-                Some(earlier)
-            }
+            Problem::DuplicateBranch { earlier }
+            | Problem::UnreachableBranch { earlier }
+            | Problem::UnusedEscape { earlier } => Some(earlier),
             _ => None,
         }
     }
@@ -223,17 +261,18 @@ impl Problem<'_> {
             Problem::MissingConditionGroup { .. } => Rule::MissingConditionGroup,
             Problem::MissingBeginGroup { .. } => Rule::MissingBeginGroup,
             Problem::MissingCaptureGroup { .. } => Rule::MissingCaptureGroup,
-            Problem::UselessBackreference { .. } => Rule::UselessBackreference,
+            Problem::UselessBackreference { .. } | Problem::GroupZero => Rule::UselessBackreference,
             Problem::UnresolvedCall => Rule::UnresolvedCall,
             Problem::NumberedReference => Rule::NumberedReference,
             Problem::DuplicateGroupName { .. } => Rule::DuplicateGroupName,
             Problem::UnusedCapturingGroup { .. } => Rule::UnusedCapturingGroup,
             Problem::DuplicateBranch { .. } => Rule::DuplicateBranch,
             Problem::UnreachableBranch { .. } => Rule::UnreachableBranch,
+            Problem::UnusedEscape { .. } => Rule::UnusedEscape,
             Problem::ExponentialBacktracking { .. } => Rule::ExponentialBacktracking,
             Problem::PolynomialBacktracking { .. } => Rule::PolynomialBacktracking,
             Problem::UselessFlag { .. } => Rule::UselessFlag,
-            Problem::SingleCharacterClass => Rule::SingleCharacterClass,
+            Problem::CharactersInEscape { .. } => Rule::CharactersInEscape,
             Problem::Class(problem) => rule_of_class(problem),
             Problem::DialectDifference { .. } => Rule::DialectDifference,
         }
@@ -250,67 +289,6 @@ impl fmt::Display for Total {
             0 => f.write_str("no numbered group"),
             1 => f.write_str("1 numbered group"),
             total => write!(f, "{total} numbered groups"),
-        }
-    }
-}
-
-/// The text without the article that it begins with.
-fn without_article(text: &str) -> &str {
-    text.split_once(' ').map_or(text, |(_, rest)| rest)
-}
-
-/// The message of a report.
-impl fmt::Display for Problem<'_> {
-    fn fmt<W: fmt::Write>(&self, f: &mut fmt::Formatter<W>) -> fmt::Result {
-        match self {
-            Problem::Plain(rule) => f.write_str(without_article(rule.row().what)),
-            Problem::MissingGroup { group, total } => {
-                write!(f, "reference to group {group}, but the pattern has {total}")
-            }
-            Problem::MissingConditionGroup { group, total } => {
-                write!(f, "condition on group {group}, but the pattern has {total}")
-            }
-            Problem::MissingBeginGroup { group, total } => {
-                write!(f, "reference to group {group}, but begin has {total}")
-            }
-            Problem::MissingCaptureGroup { key, group, total } => {
-                let key = key.name();
-                write!(f, "number {group} in {key}, but the pattern has {total}")
-            }
-            Problem::UselessBackreference { group } => {
-                write!(
-                    f,
-                    "back reference to {group}, which cannot have matched here"
-                )
-            }
-            Problem::UnresolvedCall => f.write_str("subroutine call that refers to no group"),
-            Problem::NumberedReference => {
-                f.write_str("reference by a number, beside groups with a name")
-            }
-            Problem::DuplicateGroupName { group } => {
-                write!(f, "{group}, has the name of an earlier group")
-            }
-            Problem::UnusedCapturingGroup { group } => write!(
-                f,
-                "group {group} has no name, and nothing refers to it"
-            ),
-            Problem::DuplicateBranch { earlier } => {
-                write!(f, "branch that is equal to branch {earlier}")
-            }
-            Problem::UnreachableBranch { earlier } => write!(
-                f,
-                "branch that is never reached: whenever it would match, branch {earlier} matches first"
-            ),
-            Problem::ExponentialBacktracking { text } => {
-                write!(f, "exponential backtracking on {text}")
-            }
-            Problem::PolynomialBacktracking { degree, text } => {
-                write!(f, "polynomial backtracking of degree {degree} on {text}")
-            }
-            Problem::UselessFlag { letter } => write!(f, "flag {letter} is set already"),
-            Problem::SingleCharacterClass => f.write_str("class of one character"),
-            Problem::Class(problem) => write!(f, "{problem}"),
-            Problem::DialectDifference { difference } => write!(f, "{difference}"),
         }
     }
 }

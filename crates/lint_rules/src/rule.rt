@@ -24,9 +24,13 @@ pub enum Rule {
     UnusedCapturingGroup,
     DuplicateBranch,
     UnreachableBranch,
+    UnusedEscape,
     EmptyBranch,
     QuantifiedAssertion,
+    ImpossibleAssertion,
+    UselessLookAround,
     EmptyLoop,
+    LazyAtEnd,
     InvalidQuantifier,
     UselessQuantifier,
     ZeroQuantifier,
@@ -37,6 +41,7 @@ pub enum Rule {
     InvalidClass,
     EmptyClass,
     DuplicateCharacters,
+    CharactersInEscape,
     SuspiciousClass,
     SuspiciousRange,
     SubsumedBranch,
@@ -76,7 +81,7 @@ const WARNS: RuleRow = RuleRow {
 };
 
 /// All rules, in the order in which they are listed, which is that of the variants of `Rule`.
-pub static RULES: [RuleRow; 28] = [
+pub static RULES: [RuleRow; 33] = [
     RuleRow {
         rule: Rule::MissingGroup,
         name: "missing-group",
@@ -171,6 +176,14 @@ pub static RULES: [RuleRow; 28] = [
         ..WARNS
     },
     RuleRow {
+        rule: Rule::UnusedEscape,
+        name: "unused-escape",
+        what: "an escape in a loop, of which an earlier branch matches the backslash",
+        example: r#""(?:[^"]|\\")*""#,
+        help: "add the backslash to the characters that the earlier branch excludes",
+        ..WARNS
+    },
+    RuleRow {
         rule: Rule::EmptyBranch,
         name: "empty-branch",
         what: "an empty branch between others",
@@ -187,11 +200,35 @@ pub static RULES: [RuleRow; 28] = [
         ..WARNS
     },
     RuleRow {
+        rule: Rule::ImpossibleAssertion,
+        name: "impossible-assertion",
+        what: "an assertion that never holds, by the characters beside it",
+        example: r"a^b",
+        help: r"remove it, or write it so that it is the character, as `\$`, or `<` for `\<`",
+        ..WARNS
+    },
+    RuleRow {
+        rule: Rule::UselessLookAround,
+        name: "useless-look-around",
+        what: "a look-around whose contents match everywhere, since they may be empty",
+        example: r"a(?=b*)c",
+        help: "let its contents match at least one character, or remove it",
+        ..WARNS
+    },
+    RuleRow {
         rule: Rule::EmptyLoop,
         name: "empty-loop",
         what: "an unlimited quantifier on what can match the empty text",
         example: r"(?:a*)*",
         help: "let each repetition match at least one character",
+        ..WARNS
+    },
+    RuleRow {
+        rule: Rule::LazyAtEnd,
+        name: "lazy-at-end",
+        what: "a lazy quantifier at the end, which repeats only its minimum",
+        example: r"#.*?",
+        help: "make it greedy, or write after it what ends the match, as `$`",
         ..WARNS
     },
     RuleRow {
@@ -277,7 +314,17 @@ pub static RULES: [RuleRow; 28] = [
         rule: Rule::DuplicateCharacters,
         name: "duplicate-characters",
         what: "characters in a class that the rest of the class contains already",
-        example: r"[0-9\d]",
+        example: r"[a-zc]",
+        help: "remove them",
+        fix: Some(FixKind::DuplicateCharacters),
+        ..WARNS
+    },
+    RuleRow {
+        rule: Rule::CharactersInEscape,
+        name: "characters-in-escape",
+        level: Level::Allow,
+        what: "characters in a class that an escape in it contains already",
+        example: r"[\w_]",
         help: "remove them",
         fix: Some(FixKind::DuplicateCharacters),
         ..WARNS

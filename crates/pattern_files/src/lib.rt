@@ -5,6 +5,7 @@ pub mod entry;
 pub mod file_pattern;
 pub mod form;
 pub mod lines;
+pub mod patch;
 pub mod record;
 pub mod shift;
 pub mod sources;

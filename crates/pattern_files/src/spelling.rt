@@ -6,6 +6,7 @@ ghost use Rattle.pattern_files.specs.Spelled.{IsJsonOf, IsSpelled};
 
 use crate::lines::{BOM, breaks_line};
 use json::{Reader, Scratch, Token};
+use patterns_text::shown::is_hidden;
 use source_literals::source_change::CharacterChange;
 use std::alloc::{AllocError, Global};
 
@@ -227,7 +228,22 @@ pub fn offset_in_contents(form: SpelledIn, contents: &str, pattern: &str, offset
     }
 }
 
-/// Writes a character of a string of JSON.
+/// Whether a string of JSON has the character as an escape: it is hidden, or a space other than that of ASCII, so nobody would
+/// see what it is.
+fn is_escaped(c: char) -> bool {
+    is_hidden(c) || (!c.is_ascii() && c.is_whitespace())
+}
+
+/// Writes the escapes of a character, one for each of its units in UTF-16.
+fn push_escapes(alloc: Global, spelled: &mut String, c: char) -> Result<(), AllocError> {
+    let mut units = [0; 2];
+    for unit in c.encode_utf16(&mut units).iter() {
+        spelled.push_str(format!(in alloc; "\\u{unit:04x}")?.as_str())?;
+    }
+    Ok(())
+}
+
+/// Writes a character of a string of JSON that its pattern does not spell.
 fn push_spelled(alloc: Global, spelled: &mut String, c: char) -> Result<(), AllocError> {
     match c {
         '"' => spelled.push_str("\\\"")?,
@@ -235,7 +251,7 @@ fn push_spelled(alloc: Global, spelled: &mut String, c: char) -> Result<(), Allo
         '\n' => spelled.push_str("\\n")?,
         '\r' => spelled.push_str("\\r")?,
         '\t' => spelled.push_str("\\t")?,
-        c if c < ' ' => spelled.push_str(format!(in alloc; "\\u{:04x}", c as u32)?.as_str())?,
+        c if is_escaped(c) => push_escapes(alloc, spelled, c)?,
         c => spelled.push(c)?,
     }
     Ok(())

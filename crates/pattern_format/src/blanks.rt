@@ -42,7 +42,7 @@ impl<'p> Writer<'p> {
         let written = &mut self.sheet.text;
         let is_line_start = written.is_empty() || written.ends_with('\n');
         match column {
-            Some(column) => self.sheet.begin(column),
+            Some(column) => self.sheet.begin(column, blanks),
             None if is_line_start => Ok(written.push_str(blanks)?),
             None if blanks.is_empty() => Ok(()),
             None => Ok(written.push(' ')?),

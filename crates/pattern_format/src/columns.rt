@@ -1,9 +1,7 @@
 //! The columns that an author aligned tokens in.
+use crate::tab_stops::column_after;
 use crate::token::{Column, Token, TokenKind};
 use std::alloc::{AllocError, Global};
-
-/// How many characters apart the positions are that a TAB goes on to.
-const TAB_WIDTH: usize = 8;
 
 /// A token with blanks before it in its line.
 #[derive(Clone, Copy)]
@@ -13,31 +11,8 @@ struct Cell {
     /// Its line, from 1 on.
     line: usize,
     column: Column,
-    /// Whether it stays in its column, also if no other token is in it.
+    /// Whether it stays in its column, even if no other token is in it.
     is_fixed: bool,
-}
-
-/// What is known of a column.
-#[derive(Clone, Copy)]
-struct Use {
-    cells: usize,
-    /// Whether more than one blank is before a token in it.
-    is_wide: bool,
-}
-
-/// How many characters are in a line up to the end of the text, after so many.
-fn after(column: usize, text: &str) -> usize {
-    let mut column = column;
-    for c in text.chars() {
-        column = match c {
-            '\n' => 0,
-            '\t' => (column / TAB_WIDTH)
-                .saturating_add(1)
-                .saturating_mul(TAB_WIDTH),
-            _ => column.saturating_add(1),
-        };
-    }
-    column
 }
 
 /// The cells of a pattern up to a token.
@@ -60,6 +35,8 @@ struct Walk {
     comment: Option<(usize, usize)>,
     /// The column of the last comment of these lines that is in another column.
     other: Option<usize>,
+    /// The first line with a token, and the last one.
+    lines: Option<(usize, usize)>,
 }
 
 impl Walk {
@@ -67,7 +44,7 @@ impl Walk {
     fn pass_blanks(&mut self, text: &str) {
         let start = self.column;
         let breaks = text.matches('\n').count();
-        self.column = after(start, text);
+        self.column = column_after(start, text);
         self.line = self.line.saturating_add(breaks);
         if breaks > 1 || breaks == 1 && self.is_line_start {
             self.first_line = self.line;
@@ -141,6 +118,8 @@ impl Walk {
             self.pass_blanks(text);
             return Ok(());
         }
+        let first = self.lines.map_or(self.line, |(first, _)| first);
+        self.lines = Some((first, self.line));
         if let TokenKind::LineComment = token.kind {
             self.add_comment(index)?;
         } else {
@@ -149,7 +128,7 @@ impl Walk {
         self.is_after_first_bar = self.is_line_start && text == "|";
         self.is_line_start = text.ends_with('\n');
         self.blanks = 0;
-        self.column = after(self.column, text);
+        self.column = column_after(self.column, text);
         self.line = self.line.saturating_add(text.matches('\n').count());
         Ok(())
     }
@@ -167,9 +146,10 @@ fn count_before(cells: &[Cell], line: usize, start: usize) -> usize {
     count
 }
 
-/// Numbers the columns of cells. Tokens of lines one after another that begin in the same column are aligned.
-fn number_columns(alloc: Global, cells: &mut Vec<Cell>) -> Result<Vec<Use>, AllocError> {
-    let mut uses: Vec<Use> = Vec::new(alloc);
+/// Numbers the columns of cells. Tokens of lines one after another that begin in the same column are aligned. Returns for each
+/// column whether more than one blank is before a token in it.
+fn number_columns(alloc: Global, cells: &mut Vec<Cell>) -> Result<Vec<bool>, AllocError> {
+    let mut are_wide: Vec<bool> = Vec::new(alloc);
     let mut numbered: Vec<Cell> = Vec::with_capacity(alloc, cells.len())?;
     let mut above = 0usize;
     for cell in cells.iter() {
@@ -186,29 +166,25 @@ fn number_columns(alloc: Global, cells: &mut Vec<Cell>) -> Result<Vec<Use>, Allo
                 .column
                 .number,
             _ => {
-                uses.push(Use {
-                    cells: 0,
-                    is_wide: false,
-                })?;
-                uses.len().saturating_sub(1)
+                are_wide.push(false)?;
+                are_wide.len().saturating_sub(1)
             }
         };
-        if let Some(used) = uses.get_mut(cell.column.number) {
-            used.cells = used.cells.saturating_add(1);
-            used.is_wide = used.is_wide || cell.column.blanks > 1;
+        if let Some(is_wide) = are_wide.get_mut(cell.column.number) {
+            *is_wide = *is_wide || cell.column.blanks > 1;
         }
         numbered.push(cell)?;
     }
     *cells = numbered;
-    Ok(uses)
+    Ok(are_wide)
 }
 
-/// Whether the column of the cell is one that tokens are aligned in.
-fn is_aligned(cell: Cell, uses: &[Use]) -> bool {
-    match uses.get(cell.column.number) {
-        Some(used) => cell.is_fixed || used.cells > 1 && used.is_wide,
-        None => false,
-    }
+/// Whether the cell stays in its column. Tokens may be aligned where more than one blank is before one of them.
+fn is_aligned(cell: Cell, are_wide: &[bool]) -> bool {
+    cell.is_fixed
+        || are_wide
+            .get(cell.column.number)
+            .is_some_and(|is_wide| *is_wide)
 }
 
 /// Sets the column of the token of a cell.
@@ -231,6 +207,7 @@ pub(crate) fn set_columns(alloc: Global, tokens: &mut [Token<'_>]) -> Result<(),
         is_after_first_bar: false,
         comment: None,
         other: None,
+        lines: None,
     };
     for (i, token) in tokens.iter().enumerate() {
         walk.pass(i, *token)?;
@@ -238,11 +215,15 @@ pub(crate) fn set_columns(alloc: Global, tokens: &mut [Token<'_>]) -> Result<(),
     let Walk {
         mut cells,
         comments,
+        lines,
         ..
     } = walk;
-    let uses = number_columns(alloc, &mut cells)?;
+    if lines.is_some_and(|(first, last)| first == last) {
+        cells.clear();
+    }
+    let are_wide = number_columns(alloc, &mut cells)?;
     for cell in cells.iter() {
-        if is_aligned(*cell, &uses) {
+        if is_aligned(*cell, &are_wide) {
             set_column(tokens, *cell);
         }
     }

@@ -1,5 +1,6 @@
 //! Patterns in one line, without the layout that they have.
 use crate::all_comments::{Comment, all_comments};
+use crate::bars::with_bars_first;
 use crate::cut::tokens_of;
 use crate::read_back::reads_back;
 use crate::spelling::{push_flags, push_quantifier, without_blanks};
@@ -32,7 +33,9 @@ enum Loss {
 /// What is before a token in its line.
 #[derive(Clone, Copy, PartialEq, Eq, Debug)]
 enum Before {
-    /// Nothing, or what no branch ends with.
+    /// Nothing but blanks.
+    Nothing,
+    /// What no branch ends with.
     NoBranch,
     /// What a branch may end with.
     Branch,
@@ -56,7 +59,7 @@ fn after_other(before: Before, text: &str) -> Before {
 fn after_token(before: Before, token: Token<'_>) -> Before {
     match token.kind {
         TokenKind::Leaf { .. } | TokenKind::Quantifier | TokenKind::Comment => Before::Branch,
-        TokenKind::Blank | TokenKind::LineComment => Before::NoBranch,
+        TokenKind::Blank | TokenKind::LineComment => Before::Nothing,
         TokenKind::Flags { .. } | TokenKind::Other => after_other(before, token.text),
     }
 }
@@ -122,7 +125,7 @@ impl<'p> Line<'p> {
     fn pass_blanks(&mut self, blanks: &str) -> Result<(), AllocError> {
         self.has_gap = true;
         if blanks.contains('\n') {
-            self.before = Before::NoBranch;
+            self.before = Before::Nothing;
         }
         if self.loss == Loss::Escapes && self.last == SPACE_AT_END && blanks.contains('\n') {
             for _ in 0..SPACE_AT_END.len() {
@@ -155,6 +158,14 @@ impl<'p> Line<'p> {
                 self.written.push(')')?;
             }
             Some(_) | None => self.written.push_str(comment)?,
+        }
+        Ok(())
+    }
+
+    /// Ends the line, if something is in it.
+    fn end_line(&mut self) -> Result<(), AllocError> {
+        if !self.written.is_empty() && !self.written.ends_with('\n') {
+            self.written.push('\n')?;
         }
         Ok(())
     }
@@ -275,7 +286,7 @@ impl<'p> Line<'p> {
     }
 
     /// Writes a comment that is not inside a token. If its line ends after it, and a branch with its bar is before it, it is about
-    /// that branch, and comes before the bar.
+    /// that branch, and comes before the bar. One that stays with its line is alone there if it was.
     fn push_comment(&mut self, token: Token<'p>, ends_line: bool) -> Result<(), AllocError> {
         let is_after_bar = self.before == Before::BranchAndBar
             && ends_line
@@ -286,6 +297,9 @@ impl<'p> Line<'p> {
         if let TokenKind::Comment = token.kind {
             self.written.push_str(token.text)?;
         } else {
+            if self.keeps_line_comments && self.before == Before::Nothing {
+                self.end_line()?;
+            }
             self.push_line_comment(token.text)?;
         }
         if is_after_bar {
@@ -332,7 +346,7 @@ impl<'p> Line<'p> {
             TokenKind::Blank => self.pass_blanks(text),
             TokenKind::LineComment if contents(text) == Some("") => {
                 self.has_gap = true;
-                self.before = Before::NoBranch;
+                self.before = Before::Nothing;
                 Ok(())
             }
             TokenKind::LineComment
@@ -376,7 +390,7 @@ fn in_one_line(
         written: String::new(alloc),
         last: "",
         has_gap: false,
-        before: Before::NoBranch,
+        before: Before::Nothing,
         loss,
         keeps_line_comments: needs_lines(pattern, comments),
         oniguruma_mode,
@@ -430,8 +444,11 @@ fn in_line_once(alloc: Global, pattern: &str, flags: u32) -> Result<Option<Strin
         Err(Error::ParseError(..)) => return Ok(None),
         Err(Error::OutOfMemory) => return Err(AllocError),
     };
-    let tokens = tokens_of(alloc, pattern, &parsed)?;
+    let mut tokens = tokens_of(alloc, pattern, &parsed)?;
     let comments = all_comments(alloc, pattern, &parsed)?;
+    if !needs_lines(pattern, &comments) {
+        tokens = with_bars_first(alloc, &tokens)?;
+    }
     let oniguruma_mode = Flags::from_bits(flags).oniguruma_mode;
     for loss in losses(&tokens) {
         let text = in_one_line(alloc, pattern, &tokens, &comments, *loss, oniguruma_mode)?;

@@ -133,7 +133,7 @@ impl Lines {
         match self.blanks {
             Blanks::Nothing => Ok(()),
             Blanks::Space => Ok(self.sheet.text.push(' ')?),
-            Blanks::Column(column) => self.sheet.begin(column),
+            Blanks::Column(column) => self.sheet.begin(column, ""),
         }
     }
 
@@ -184,7 +184,7 @@ impl Lines {
             Blanks::Column(column) if is_alone => {
                 self.gap = Gap::Line;
                 self.begin_line(0)?;
-                self.sheet.begin(column)?;
+                self.sheet.begin(column, "")?;
             }
             Blanks::Nothing | Blanks::Space | Blanks::Column(_) if is_alone => self.write_gap()?,
             Blanks::Nothing | Blanks::Space | Blanks::Column(_) => self.write_blanks()?,

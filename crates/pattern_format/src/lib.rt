@@ -2,6 +2,7 @@
 #![tactic(auto)]
 
 pub mod all_comments;
+mod bars;
 mod blanks;
 mod columns;
 mod comments;
@@ -22,6 +23,7 @@ mod removed;
 mod sheet;
 mod spelling;
 pub mod style;
+mod tab_stops;
 mod token;
 mod verbose;
 mod written;

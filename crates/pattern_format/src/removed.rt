@@ -1,5 +1,5 @@
 //! Tokens without those that are needless. The lines that have nothing else go too.
-use crate::token::{Token, TokenKind};
+use crate::token::{Column, Token, TokenKind};
 use std::alloc::{AllocError, Global};
 
 /// The blank that is put before a comment.
@@ -96,7 +96,8 @@ struct Kept<'p> {
     held: Option<Held<'p>>,
     /// Whether the line has ended already.
     is_ended: bool,
-    /// Whether the next token is a comment that is alone in its line, since what was before it went.
+    /// Whether the next token is a comment that is alone in its line, since what was before it went. It keeps its column only below
+    /// a comment that is in it.
     is_alone: bool,
 }
 
@@ -110,6 +111,20 @@ impl<'p> Kept<'p> {
             return is_line_comment(*last);
         }
         last.text.contains('\n') || before.last().is_none_or(|other| is_line_comment(*other))
+    }
+
+    /// Whether the line above ends with a comment in the column.
+    fn is_below_comment(&self, column: Column) -> bool {
+        let Some((last, before)) = self.kept.split_last() else {
+            return false;
+        };
+        let above = match before.last() {
+            Some(other) if is_blank(*last) && !is_line_end(*last) => *other,
+            Some(_) | None => *last,
+        };
+        is_line_comment(above)
+            && above.column.is_some_and(|other| other.start == column.start
+                && other.number == column.number)
     }
 
     /// Adds a comment after blanks.
@@ -164,7 +179,7 @@ impl<'p> Kept<'p> {
         let is_alone = comment.is_some() || next.is_some_and(|token| is_line_end(token));
         if !is_alone || !self.is_line_start() {
             self.less.push(0)?;
-            return Ok(0);
+            return Ok(if self.is_line_start() { blanks } else { 0 });
         }
         let end = blanks.saturating_add(comment.is_some() as usize);
         let lines = after.get(end).copied().filter(|token| is_blank(*token));
@@ -227,7 +242,9 @@ impl<'p> Kept<'p> {
                     .is_some_and(|next| next.is_needless && next.text == ")");
                 self.push_blank(token, is_before_closing)?;
             } else {
-                let column = if self.is_alone { None } else { token.column };
+                let column = token
+                    .column
+                    .filter(|column| !self.is_alone || self.is_below_comment(*column));
                 self.is_alone = false;
                 self.kept.push(Token { column, ..token })?;
             }

@@ -1,21 +1,22 @@
 //! Texts with columns, whose tokens begin below one another.
+use crate::tab_stops::column_after;
 use crate::token::Column;
 use std::alloc::{AllocError, Global};
 
 /// Where a column begins in a line of a text.
 #[derive(Clone, Copy)]
 struct Stop {
-    /// Its position in the text, which has no blanks there.
+    /// Where the author's blanks before it begin in the text, if they are known.
     position: usize,
+    /// Where they end.
+    end: usize,
     column: Column,
     /// Whether another one is before it in its line.
     is_after_other: bool,
-    /// How many characters are before it in the line, from the other one on if there is one.
-    width: usize,
-    /// How many characters are before it in the line, with blanks.
+    /// Where its line begins in the text, or the other one in that line.
+    from: usize,
+    /// The column that it begins in, with blanks before it.
     start: usize,
-    /// The number of blanks before it.
-    blanks: usize,
 }
 
 /// Where a stop is among the others.
@@ -45,17 +46,19 @@ impl Sheet {
         })
     }
 
-    /// Begins a column at the end of the text. If that is to the left of one that is before it in the line, blanks come there.
-    pub(crate) fn begin(&mut self, column: Column) -> Result<(), AllocError> {
+    /// Begins a column at the end of the text, after the author's blanks, or "" if others come there. If that is to the left of
+    /// one that is before it in the line, blanks come there.
+    pub(crate) fn begin(&mut self, column: Column, blanks: &str) -> Result<(), AllocError> {
         let position = self.text.len();
-        let (from, last) = match self.stops.last() {
-            Some(stop) => (stop.position, Some(*stop)),
-            None => (0, None),
+        let last = self.stops.last().copied();
+        let passed = last.map_or(0, |stop| stop.end);
+        let line = match self.text.get(passed..) {
+            Some(text) => text.rsplit_once('\n'),
+            None => None,
         };
-        let passed = self.text.get(from..).unwrap_or("");
-        let (is_after_other, width) = match passed.rsplit_once('\n') {
-            Some((_, line)) => (false, line.chars().count()),
-            None => (last.is_some(), passed.chars().count()),
+        let (is_after_other, from) = match line {
+            Some((_, line)) => (false, position.saturating_sub(line.len())),
+            None => (last.is_some(), passed),
         };
         if let Some(stop) = last
             && is_after_other
@@ -66,25 +69,47 @@ impl Sheet {
             }
             return Ok(());
         }
+        self.text.push_str(blanks)?;
         self.stops.push(Stop {
             position,
+            end: self.text.len(),
             column,
             is_after_other,
-            width,
+            from,
             start: 0,
-            blanks: column.blanks,
         })?;
         Ok(())
     }
 
-    /// How many characters are before the stop in its line, without the blanks before it. Those before it are set.
+    /// The column at the end of what is before the stop, without the blanks. The stops before it are set.
     fn end_before(&self, index: usize) -> usize {
         let Some(stop) = self.stops.get(index) else {
             return 0;
         };
+        let text = self.text.get(stop.from..stop.position).unwrap_or("");
         match self.stops.get(index.saturating_sub(1)) {
-            Some(other) if stop.is_after_other => other.start.saturating_add(stop.width),
-            _ => stop.width,
+            Some(other) if stop.is_after_other => column_after(other.start, text),
+            _ => column_after(0, text),
+        }
+    }
+
+    /// The author's blanks before the stop; "" if they are not known.
+    fn blanks_of(&self, stop: Stop) -> &str {
+        self.text.get(stop.position..stop.end).unwrap_or("")
+    }
+
+    /// Sets where the only stop of its column begins: after the author's blanks, if they are known.
+    fn set_lone_start(&mut self, index: usize) {
+        let before = self.end_before(index);
+        let Some(stop) = self.stops.get(index).copied() else {
+            return;
+        };
+        let start = match self.blanks_of(stop) {
+            "" => before.saturating_add(stop.column.blanks),
+            blanks => column_after(before, blanks),
+        };
+        if let Some(stop) = self.stops.get_mut(index) {
+            stop.start = start;
         }
     }
 
@@ -100,10 +125,8 @@ impl Sheet {
         }
         let start = end.saturating_add(blanks);
         for rank in ranks {
-            let before = self.end_before(rank.index);
             if let Some(stop) = self.stops.get_mut(rank.index) {
                 stop.start = start;
-                stop.blanks = start.saturating_sub(before);
             }
         }
     }
@@ -122,7 +145,27 @@ impl Sheet {
         for column in ranks.chunk_by(|one, other| one.start == other.start
             && one.number == other.number)
         {
-            self.set_start(column);
+            match column {
+                [lone] => self.set_lone_start(lone.index),
+                several => self.set_start(several),
+            }
+        }
+        Ok(())
+    }
+
+    /// Writes the blanks before a stop, after this column: the author's if they go as far, or else spaces.
+    fn write_blanks(
+        &self,
+        written: &mut String,
+        stop: Stop,
+        column: usize,
+    ) -> Result<(), AllocError> {
+        let blanks = self.blanks_of(stop);
+        if column_after(column, blanks) == stop.start {
+            return Ok(written.push_str(blanks)?);
+        }
+        for _ in column..stop.start {
+            written.push(' ')?;
         }
         Ok(())
     }
@@ -135,12 +178,10 @@ impl Sheet {
         self.set_starts()?;
         let mut written = String::with_capacity(self.alloc, self.text.len())?;
         let mut position = 0usize;
-        for stop in self.stops.iter() {
+        for (index, stop) in self.stops.iter().enumerate() {
             written.push_str(self.text.get(position..stop.position).unwrap_or(""))?;
-            for _ in 0..stop.blanks {
-                written.push(' ')?;
-            }
-            position = stop.position;
+            self.write_blanks(&mut written, *stop, self.end_before(index))?;
+            position = stop.end;
         }
         written.push_str(self.text.get(position..).unwrap_or(""))?;
         Ok(written)

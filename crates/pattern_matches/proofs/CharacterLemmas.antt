@@ -107,7 +107,7 @@ unfolding MatchesOneOf
 both_match None xs ys k l = absurd k
 both_match (Some p) xs ys k l = both_read (read p.0 p.1) xs ys k l
 
-same_ranges : (u : Bool) (t : Tree) (xs ys : List Range) → IsOneOf u t xs → IsOneOf u t ys → (c : ℕ) →
+pub same_ranges : (u : Bool) (t : Tree) (xs ys : List Range) → IsOneOf u t xs → IsOneOf u t ys → (c : ℕ) →
     is_scalar c ≡ true → in_ranges xs c ≡ in_ranges ys c
 same_ranges u t xs ys k l = same_inside xs ys (both_match (engine_pattern u t) xs ys k l)
 

@@ -1,7 +1,7 @@
 -- How many characters a part that a tree matches has at most.
 use Rattle.std.proofs.Common.{◌≡◌, ℕ, zero, suc, ◌+◌, ◌*◌, ◌<◌, ◌≤◌, Bool, true, false, length, Option, Some, None}
-use Rattle.std.proofs.Common.{nat_lt, if◌then◌else◌, inl, inr, refl, ap, subst, arith}
-use Rattle.std.proofs.Math.Nat.{suc-mul, zero-mul, mul-le-mul_right}
+use Rattle.std.proofs.Common.{nat_lt, ◌==◌, ◌||◌, if◌then◌else◌, ◌⊎◌, inl, inr, ⊎_elim, refl, ap, subst, eqb-true, arith}
+use Rattle.std.proofs.Math.Nat.{suc-mul, zero-mul, mul-zero, mul-le-mul_right}
 use Rattle.std.proofs.lemmas.Bool.{ltb-true}
 use Rattle.fancy_grammar.specs.Label as label
 use Rattle.fancy_grammar.specs.Label.{Leaf, Wrap, Row}
@@ -9,7 +9,7 @@ use Rattle.fancy_grammar.specs.Tree.{Tree, Trees, leaf, over, row, no_trees, mor
 use Rattle.fancy_lex.specs.Quantifier.{most}
 use Rattle.pattern_matches.specs.Parts.{Position, Parts, One, one, Then, Times, Repeated}
 use Rattle.pattern_matches.specs.Matches.{Assertions, Matches, RowMatches, LeafMatches, WrapMatches, NoneMatch, MoreMatch}
-use Rattle.pattern_matches.specs.Lengths.{HasAtMost, leaf_most, wrap_most, row_most, max_length, max_lengths}
+use Rattle.pattern_matches.specs.Lengths.{HasAtMost, leaf_most, turns_most, wrap_most, row_most, max_length, max_lengths}
 
 -- at most so many, if there is a limit
 HasMost : Option ℕ → Position → Position → Type 0
@@ -40,12 +40,22 @@ times_most P n has (suc j) p q k =
     let b : HasAtMost (j * n) k.middle q = times_most P n has j k.middle q k.second in
     rw suc-mul (omega arith)
 
+-- turns of which there are no more than hi, or that take nothing
 repeated_most : (P : Parts) (n : ℕ) → ((p q : Position) → P p q → HasAtMost n p q) → (lo hi : ℕ) (p q : Position) →
-    hi < most → Repeated P lo hi p q → HasAtMost (hi * n) p q
-repeated_most P n has lo hi p q limit k =
+    (hi < most) ⊎ (n ≡ 0) → Repeated P lo hi p q → HasAtMost (hi * n) p q
+repeated_most P n has lo hi p q (inl limit) k =
     let a : HasAtMost (k.count * n) p q = times_most P n has k.count p q k.turns in
     let b : k.count * n ≤ hi * n = mul-le-mul_right n (k.few limit) in
     omega arith
+repeated_most P n has lo hi p q (inr none) k =
+    let a : HasAtMost (k.count * 0) p q = times_most P 0
+    (subst (λ m. (p q : Position) → P p q → HasAtMost m p q) none has) k.count p q k.turns in
+    let b : k.count * 0 ≡ 0 = mul-zero k.count in
+    omega arith
+
+one_of_two : (a b : Bool) → (a || b) ≡ true → (a ≡ true) ⊎ (b ≡ true)
+one_of_two true b h = inl refl
+one_of_two false b h = inr h
 
 -- a repeat, whose test of a limit is b
 limited : (b : Bool) (n hi : ℕ) (p q : Position) → (b ≡ true → HasAtMost (hi * n) p q) →
@@ -54,14 +64,35 @@ unfolding HasMost
 limited true n hi p q f = f refl
 limited false n hi p q f = tt
 
+no_turn : (P : Parts) (n : ℕ) (p q : Position) → n ≤ 0 → Times P n p q → p ≡ q
+no_turn P zero p q high k = k
+no_turn P (suc n) p q high k = absurd (omega arith)
+
+-- a repeat of any tree, whose test that there is no turn is b
+without_turns : (b : Bool) (P : Parts) (lo hi : ℕ) (p q : Position) → (b ≡ true → hi ≡ 0) → Repeated P lo hi p q →
+    HasMost (if b then Some 0 else None) p q
+unfolding HasMost
+without_turns true P lo hi p q f k =
+    let none : hi ≡ 0 = f refl in
+    let few : k.count ≤ hi = k.few (omega arith) in
+    nothing p q (no_turn P k.count p q (omega arith) k.turns)
+without_turns false P lo hi p q f k = tt
+
+turns_have : (P : Parts) (o : Option ℕ) → ((p q : Position) → P p q → HasMost o p q) → (lo hi : ℕ) (p q : Position) →
+    Repeated P lo hi p q → HasMost (turns_most hi o) p q
+unfolding HasMost
+turns_have P (Some n) has lo hi p q k =
+    limited (nat_lt hi most || (n == 0)) n hi p q
+    (λ h. repeated_most P n has lo hi p q
+    (⊎_elim (λ a. inl (ltb-true hi most a)) (λ b. inr (eqb-true n 0 b)) (one_of_two _ _ h)) k)
+turns_have P None has lo hi p q k = without_turns (hi == 0) P lo hi p q (eqb-true hi 0) k
+
 wrap_has : (w : Wrap) (P : Parts) (o : Option ℕ) → ((p q : Position) → P p q → HasMost o p q) → (p q : Position) →
     WrapMatches w P p q → HasMost (wrap_most w o) p q
 unfolding HasMost
 wrap_has label.group P o has p q k = has p q k
 wrap_has (label.look_around l) P o has p q k = nothing p q k.0
-wrap_has (label.repeat lo hi greedy) P (Some n) has p q k =
-    limited (nat_lt hi most) n hi p q (λ h. repeated_most P n has lo hi p q (ltb-true hi most h) k)
-wrap_has (label.repeat lo hi greedy) P None has p q k = tt
+wrap_has (label.repeat lo hi greedy) P o has p q k = turns_have P o has lo hi p q k
 wrap_has _ P o has p q k = absurd k
 
 then_most : (n j : ℕ) (P Q : Parts) → ((p q : Position) → P p q → HasAtMost n p q) →

@@ -1,5 +1,5 @@
 -- How many characters the parts have that a tree matches: at least, and at most.
-use Rattle.std.specs.Prelude.{ℕ, ◌+◌, ◌*◌, ◌≤◌, min, max, length, nat_lt, Option, None, Some, if◌then◌else◌}
+use Rattle.std.specs.Prelude.{ℕ, ◌+◌, ◌*◌, ◌≤◌, min, max, length, nat_lt, ◌==◌, ◌||◌, Option, None, Some, if◌then◌else◌}
 use Rattle.fancy_lex.specs.Quantifier.{most}
 use Rattle.fancy_grammar.specs.Label as label
 use Rattle.fancy_grammar.specs.Label.{Leaf, Wrap, Row}
@@ -61,10 +61,15 @@ leaf_most (label.literal text casei) = Some 1
 leaf_most (label.delegate text casei) = Some 1
 leaf_most _ = None
 
+-- at most hi turns of a tree; where it takes no character, or there is no turn, no limit of the turns is needed
+abbrev pub turns_most : ℕ → Option ℕ → Option ℕ
+turns_most hi (Some n) = if nat_lt hi most || (n == 0) then Some (hi * n) else None
+turns_most hi None = if hi == 0 then Some 0 else None
+
 abbrev pub wrap_most : Wrap → Option ℕ → Option ℕ
 wrap_most label.group o = o
 wrap_most (label.look_around l) o = Some 0
-wrap_most (label.repeat lo hi greedy) (Some n) = if nat_lt hi most then Some (hi * n) else None
+wrap_most (label.repeat lo hi greedy) o = turns_most hi o
 wrap_most _ o = None
 
 abbrev pub row_most : Row → Option ℕ → Option ℕ → Option ℕ

@@ -110,8 +110,8 @@ fn problem_annotation(
     found: Found<'_>,
 ) -> Result<Annotation, AllocError> {
     let Found { span, problem, .. } = found;
-    let help = found.help(subject.pattern);
-    let message = format!(in subject.alloc; "{problem}\nhelp: {help}")?;
+    let (what, help) = (found.message(subject.pattern), found.help(subject.pattern));
+    let message = format!(in subject.alloc; "{what}\nhelp: {help}")?;
     let rule = Some(problem.rule().name());
     part_annotation(subject, severity, span, rule, message.as_str())
 }

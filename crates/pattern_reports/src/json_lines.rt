@@ -96,7 +96,7 @@ fn write_problem(
         related,
     } = found;
     let Subject { alloc, pattern, .. } = subject;
-    let message = format!(in alloc; "{problem}")?;
+    let message = format!(in alloc; "{}", found.message(pattern))?;
     let help = format!(in alloc; "{}", found.help(pattern))?;
     let mut writer = begin(subject, severity.word(), span.start)?;
     write_span(&mut writer, characters, span)?;

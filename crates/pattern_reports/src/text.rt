@@ -49,7 +49,8 @@ fn write_problem(
         "{bold}{position}:{end} {color}{}{end}",
         severity.word()
     )?;
-    writeln!(out, ": {problem} [{}]", problem.rule().name())?;
+    let message = found.message(subject.pattern);
+    writeln!(out, ": {message} [{}]", problem.rule().name())?;
     write_excerpt(out, ink, subject, span, related)?;
     writeln!(out, "help: {}", found.help(subject.pattern))
 }

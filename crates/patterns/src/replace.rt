@@ -2,7 +2,7 @@
 use crate::new_file::NewFile;
 use pattern_files::sources::ReplaceError;
 use std::fs::{File, Metadata};
-use std::io::{ErrorKind, Read};
+use std::io::{BufRead, BufReader, ErrorKind};
 use std::os::unix::fs::MetadataExt;
 use std::{fs, io};
 
@@ -41,6 +41,29 @@ fn is_same(one: &Metadata, other: &Metadata) -> bool {
         && one.ctime_nsec() == other.ctime_nsec()
 }
 
+/// Whether what is left to read of a file is the bytes. It is read in parts, so that it is not in memory once more.
+fn has_bytes(rt: &HostRuntime, file: &File, bytes: &[u8]) -> io::Result<bool> {
+    let mut reader = BufReader::new(rt.alloc(), file)?;
+    let mut left = bytes;
+    for _ in 0..u64::MAX {
+        let found = match reader.fill_buf() {
+            Ok(found) => found,
+            Err(error) if error.kind() == ErrorKind::Interrupted => continue,
+            Err(error) => return Err(error),
+        };
+        if found.is_empty() {
+            break;
+        }
+        let Some(rest) = left.strip_prefix(found) else {
+            return Ok(false);
+        };
+        left = rest;
+        let length = found.len();
+        reader.consume(length);
+    }
+    Ok(left.is_empty())
+}
+
 impl OldFile {
     /// Opens the file that the name leads to.
     fn open(rt: &HostRuntime, name: &str) -> Result<OldFile, ReplaceError> {
@@ -58,10 +81,8 @@ impl OldFile {
     }
 
     /// Whether it has these bytes, and its path still leads to it, with the same owner and permissions.
-    fn is_unchanged(&mut self, rt: &HostRuntime, bytes: &[u8]) -> io::Result<bool> {
-        let mut found = Vec::with_capacity(rt.alloc(), bytes.len())?;
-        self.file.read_to_end(&mut found)?;
-        if found.as_slice() != bytes {
+    fn is_unchanged(&self, rt: &HostRuntime, bytes: &[u8]) -> io::Result<bool> {
+        if !has_bytes(rt, &self.file, bytes)? {
             return Ok(false);
         }
         match fs::symlink_metadata(rt, self.path.as_str()) {
@@ -75,7 +96,7 @@ impl OldFile {
 /// Fills the new file, and renames it if the old one has not changed.
 fn exchange(
     rt: &HostRuntime,
-    old: &mut OldFile,
+    old: &OldFile,
     new: &NewFile,
     old_bytes: &[u8],
     new_bytes: &[u8],
@@ -100,9 +121,9 @@ pub(crate) fn replace(
     old_bytes: &[u8],
     new_bytes: &[u8],
 ) -> Result<(), ReplaceError> {
-    let mut old = OldFile::open(rt, name)?;
+    let old = OldFile::open(rt, name)?;
     let new = NewFile::create(rt, old.path.as_str())?;
-    let replaced = exchange(rt, &mut old, &new, old_bytes, new_bytes);
+    let replaced = exchange(rt, &old, &new, old_bytes, new_bytes);
     if replaced.is_err() {
         let _ = new.remove(rt);
     }

@@ -6,18 +6,12 @@ use pattern_files::form::FileFormat;
 use pattern_files::lines::Ending;
 use pattern_files::sources::STANDARD_INPUT;
 use pattern_files::values::keys::Keys;
-use pattern_format::style::Style;
 use pattern_reports::format::ReportFormat;
-use patterns_config::choices::{Choices, ConfigChoice, RuleLevel};
+use patterns_config::choices::{Choices, ConfigChoice, FormatChoices, FormatStyle, RuleLevel};
 use patterns_listing::drawing::{Look, Style as LineStyle};
 use patterns_picture::picture::{Canvas, WIDTH};
-use patterns_program::canonical::Comments;
 use patterns_program::job::{Command, Job, Output};
-use patterns_program::rewriting::PatternForm;
 use patterns_text::paint::{Paint, Paints};
-
-/// How many characters a line of a pattern may have that is laid out, where the arguments leave it open.
-const LINE_WIDTH: usize = 80;
 
 /// The colours of the two streams; `auto` where the arguments leave them open.
 fn paints_of(matches: &ArgMatches<'_>, auto: Paints) -> Paints {
@@ -28,30 +22,26 @@ fn paints_of(matches: &ArgMatches<'_>, auto: Paints) -> Paints {
     }
 }
 
-/// The style of patterns that are formatted.
-fn style_of(matches: &ArgMatches<'_>) -> Style {
+/// The style of patterns that are formatted, if it is chosen.
+fn style_of(matches: &ArgMatches<'_>) -> Option<FormatStyle> {
     if matches.get_flag("verbose") {
-        return Style::Verbose {
-            width: matches.get_one("width").unwrap_or(LINE_WIDTH),
-        };
-    }
-    if matches.get_flag("compact") {
-        Style::Compact
+        Some(FormatStyle::Verbose)
+    } else if matches.get_flag("compact") {
+        Some(FormatStyle::Compact)
+    } else if matches.get_flag("canonical") {
+        Some(FormatStyle::Canonical)
     } else {
-        Style::Kept
+        None
     }
 }
 
-/// The form of patterns that are formatted.
-fn pattern_form_of(matches: &ArgMatches<'_>) -> PatternForm {
-    if !matches.get_flag("canonical") {
-        return PatternForm::Written(style_of(matches));
+/// How patterns are formatted, as far as it is chosen.
+fn format_of(matches: &ArgMatches<'_>) -> FormatChoices {
+    FormatChoices {
+        style: style_of(matches),
+        width: matches.get_one("width"),
+        drops_comments: matches.get_flag("drop-comments"),
     }
-    PatternForm::Canonical(if matches.get_flag("drop-comments") {
-        Comments::Drop
-    } else {
-        Comments::Keep
-    })
 }
 
 /// What is done with each pattern.
@@ -59,7 +49,7 @@ fn command_of(verb: FileVerb, matches: &ArgMatches<'_>) -> Command {
     match verb {
         FileVerb::Check => Command::Check,
         FileVerb::Lint => Command::Lint,
-        FileVerb::Format => Command::Format(pattern_form_of(matches)),
+        FileVerb::Format => Command::Format,
         FileVerb::Groups => Command::Groups {
             has_classes: matches.get_flag("classes"),
         },
@@ -176,6 +166,7 @@ pub(crate) fn choices_of<'m>(
             }
             FileFormat::Records(Ending::Line) => matches.get_flag("lines"),
         },
+        format: format_of(matches),
         is_verbose: matches.get_flag("verbose"),
         levels,
     }

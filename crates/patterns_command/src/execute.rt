@@ -15,14 +15,12 @@ use pattern_files::file_pattern::read_pattern;
 use pattern_files::form::FileFormat;
 use pattern_files::lines::Ending;
 use pattern_files::sources::{STANDARD_INPUT, System};
-use pattern_format::style::Style;
 use pattern_reports::format::ReportFormat;
-use patterns_config::choices::{Choices, RuleLevel, rule_names};
+use patterns_config::choices::{Choices, FormatStyle, RuleLevel, rule_names};
 use patterns_picture::picture::draw_picture;
 use patterns_program::draw::draw_tree;
 use patterns_program::job::{Command, Job, Output};
 use patterns_program::pattern_flags::flags_of_pattern;
-use patterns_program::rewriting::PatternForm;
 use patterns_program::run::run;
 use patterns_server::serve::serve;
 use patterns_text::error::{RunError, give_up};
@@ -100,11 +98,10 @@ fn misuse_of(job: Job<'_>, has_files: bool) -> Option<&'static str> {
             Some(NO_REPORTS)
         }
         (_, Output::Patterns, FileFormat::Values(_) | FileFormat::Extracted) => Some(NO_LINES),
-        (
-            Command::Format(PatternForm::Written(Style::Verbose { .. })),
-            _,
-            FileFormat::Records(Ending::Line),
-        ) if has_files => Some(NO_RECORDS),
+        (Command::Format, _, FileFormat::Records(Ending::Line))
+            if has_files && job.choices.format.style == Some(FormatStyle::Verbose) => {
+            Some(NO_RECORDS)
+        }
         _ => None,
     }
 }

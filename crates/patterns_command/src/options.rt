@@ -250,8 +250,9 @@ to standard error",
     },
     OptionRow {
         id: "diff",
-        help: "Writes no file; shows each pattern that --fix would change, as it is
-and as it would be, and then reports what would be left",
+        help: "Writes no file; shows what --fix would change as a patch, which
+patch -p1 and git apply take, and reports on standard error what
+would be left",
         conflicts: &["fix", "json", "format"],
         ..FLAG
     },
@@ -274,22 +275,24 @@ backtracking",
 pub(crate) static FORMAT_OPTIONS: [OptionRow; 8] = [
     OptionRow {
         id: "write",
-        help: "Formats the patterns in the files, or in the sources with --records;
-standard input and patterns of -e are written to standard output",
+        help: "Formats the patterns in the files, or in the sources with --records,
+and names each that it changes on standard error; standard input and
+patterns of -e are written to standard output",
         ..FLAG
     },
     OptionRow {
         id: "check",
-        help: "Writes no pattern, and reports each that would change, as it is and
-as it would be; the exit status is 1 if one would change, is
-invalid, or cannot be formatted",
+        help: "Writes no pattern, and reports where each would change first, and the
+line there as it is and as it would be; the exit status is 1 if one
+would change, is invalid, or cannot be formatted",
         conflicts: &["write"],
         ..FLAG
     },
     OptionRow {
         id: "diff",
-        help: "Writes no file, and shows each pattern that --write would change, as
-it is and as it would be",
+        help: "Writes no file, and shows what --write would change as a patch, which
+patch -p1 and git apply take; patterns of standard input and of -e
+are shown as they are and as they would be",
         conflicts: &["write", "check"],
         ..FLAG
     },

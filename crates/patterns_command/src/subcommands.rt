@@ -115,7 +115,7 @@ several times. Of those that name a rule the last one counts, and all names ever
         ),
         example: "Example: patterns lint words.txt
 
-  words.txt:3:5: warning: branch that is equal to branch 1 [duplicate-branch]
+  words.txt:3:5: warning: `a` is branch 1 already [duplicate-branch]
   a|b|a
   -   ^
   branch 1

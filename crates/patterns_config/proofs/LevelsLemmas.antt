@@ -81,6 +81,9 @@ no_levels (option.Rules level names) other = absurd (other level names refl)
 no_levels (option.Flags flags) other = refl
 no_levels (option.Textmate is_set) other = refl
 no_levels (option.Keys keys) other = refl
+no_levels (option.Style style) other = refl
+no_levels (option.Width width) other = refl
+no_levels (option.DropComments drops) other = refl
 
 -- the option at the index gives some levels
 pub option_at : {A : Type 0} (now : A → FileOption) (items : List A) (i : ℕ) (item : A) {rule : Rule} {all : List Given}

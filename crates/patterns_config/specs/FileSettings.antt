@@ -2,6 +2,7 @@
 use Rattle.std.specs.Prelude.{◌≡◌, ℕ, Bool, true, false, ◌||◌, ◌==◌, not, List, [], ◌∷◌, length, map, Option, Some, None, String}
 use Rattle.std.specs.declared.alloc.Global.{Global}
 use Rattle.pattern_files.specs.declared.values.keys.Keys.{Keys}
+use Rattle.patterns_config.specs.declared.choices.FormatStyle.{FormatStyle}
 use Rattle.patterns_config.specs.declared.file_settings.FileSettings.{FileSettings}
 use Rattle.patterns_config.specs.declared.options.FileOption.{FileOption}
 use Rattle.patterns_config.specs.declared.options.FileOption.TheVariants as option
@@ -31,6 +32,24 @@ abbrev pub keys_after : List (String Global) → List FileOption → List (Strin
 keys_after keys [] = keys
 keys_after keys (option.Keys set ∷ others) = keys_after set.items others
 keys_after keys (_ ∷ others) = keys_after keys others
+
+-- how patterns are formatted after options
+abbrev pub style_after : Option FormatStyle → List FileOption → Option FormatStyle
+style_after style [] = style
+style_after style (option.Style set ∷ others) = style_after (Some set) others
+style_after style (_ ∷ others) = style_after style others
+
+-- how many characters a line of a formatted pattern may have after options
+abbrev pub width_after : Option ℕ → List FileOption → Option ℕ
+width_after width [] = width
+width_after width (option.Width set ∷ others) = width_after (Some set) others
+width_after width (_ ∷ others) = width_after width others
+
+-- whether canonical texts may lack comments after options
+abbrev pub drops_after : Bool → List FileOption → Bool
+drops_after drops [] = drops
+drops_after drops (option.DropComments is_set ∷ others) = drops_after is_set others
+drops_after drops (_ ∷ others) = drops_after drops others
 
 -- whether some keys have patterns
 abbrev pub is_json : List FileOption → Bool

@@ -62,6 +62,38 @@ pub enum ConfigChoice<'a> {
     None,
 }
 
+/// How patterns are formatted.
+#[derive(Debug, Clone, Copy, PartialEq, Eq)]
+pub enum FormatStyle {
+    /// As they are written, with what has one right form in that form.
+    Default,
+    /// The same, over several lines.
+    Verbose,
+    /// The same, in one line.
+    Compact,
+    /// As the texts of their trees.
+    Canonical,
+}
+
+/// The styles, by the names that a configuration gives them.
+pub(crate) static STYLES: [(&str, FormatStyle); 4] = [
+    ("default", FormatStyle::Default),
+    ("verbose", FormatStyle::Verbose),
+    ("compact", FormatStyle::Compact),
+    ("canonical", FormatStyle::Canonical),
+];
+
+/// What the arguments choose of how patterns are formatted.
+#[derive(Clone, Copy)]
+pub struct FormatChoices {
+    /// The style, if they choose one.
+    pub style: Option<FormatStyle>,
+    /// How many characters a line may have, if they choose that.
+    pub width: Option<usize>,
+    /// Whether they choose that the canonical text of a pattern may lack its comments.
+    pub drops_comments: bool,
+}
+
 /// What the arguments choose where a configuration may say otherwise. They win.
 #[derive(Clone, Copy)]
 pub struct Choices<'a> {
@@ -74,6 +106,7 @@ pub struct Choices<'a> {
     pub form: FileFormat<'a>,
     /// Whether they choose how files have patterns, whatever the names of the files are.
     pub has_form: bool,
+    pub format: FormatChoices,
     /// Whether they choose that what `lint` does not search is reported.
     pub is_verbose: bool,
     /// The levels that they give to rules, in their order.

@@ -1,11 +1,12 @@
 //! What a configuration says of the patterns of a file.
 ghost use Rattle.std.specs.Prelude.{◌≡◌, ◌++◌, ◌||◌, ◌⊎◌, [], None, false, IsTrue, IsNone, MatchOption, if◌then◌else◌, unwrap_or};
-ghost use Rattle.patterns_config.specs.FileSettings.{options_of, is_named_in, flags_after, textmate_after, keys_after, is_json, AreKeys};
+ghost use Rattle.patterns_config.specs.FileSettings.{options_of, is_named_in, flags_after, textmate_after, keys_after, is_json, AreKeys, style_after, width_after, drops_after};
+ghost use Rattle.patterns_config.specs.declared.choices.FormatStyle.{FormatStyle};
 ghost use Rattle.patterns_config.specs.Levels.{GiveLevels, levels_of_option, levels_of_options, levels_of_names, levels_of_arguments, is_json_file};
 ghost use Rattle.lint_rules.specs.Chosen.{level_of, default_level};
 ghost use Rattle.lint_rules.specs.declared.rule.Rule.{Rule};
 
-use crate::choices::{Choices, RuleLevel};
+use crate::choices::{Choices, FormatStyle, RuleLevel};
 use crate::configs::FoundConfig;
 use crate::glob::PathNames;
 use crate::options::FileOption;
@@ -116,6 +117,45 @@ impl<'a> FileSettings<'a> {
         })
     }
 
+    /// How patterns are formatted, if that is set.
+    fn style(&self) -> Option<FormatStyle>
+        ensures { result ≡ style_after None (options_of self.now) }
+    {
+        let mut style = None;
+        for option in &self.found {
+            if let FileOption::Style(set) = option {
+                style = Some(*set);
+            }
+        }
+        style
+    }
+
+    /// How many characters a line of a formatted pattern may have, if that is set.
+    fn width(&self) -> Option<usize>
+        ensures { result ≡ width_after None (options_of self.now) }
+    {
+        let mut width = None;
+        for option in &self.found {
+            if let FileOption::Width(set) = option {
+                width = Some(*set);
+            }
+        }
+        width
+    }
+
+    /// Whether canonical texts may lack comments.
+    fn drops_comments(&self) -> bool
+        ensures { result ≡ drops_after false (options_of self.now) }
+    {
+        let mut drops_comments = false;
+        for option in &self.found {
+            if let FileOption::DropComments(is_set) = option {
+                drops_comments = *is_set;
+            }
+        }
+        drops_comments
+    }
+
     /// Whether the file is JSON.
     pub(crate) fn is_json(&self) -> bool
         ensures { result ≡ is_json (options_of self.now) }
@@ -177,6 +217,39 @@ pub fn keys_with<'s>(choices: Choices<'_>, settings: &FileSettings<'s>) -> Optio
         return None;
     }
     settings.keys()
+}
+
+/// How the patterns of a file are formatted.
+#[derive(Clone, Copy)]
+pub struct FormatSettings {
+    pub style: FormatStyle,
+    /// How many characters a line may have.
+    pub width: usize,
+    /// Whether the canonical text of a pattern may lack its comments.
+    pub drops_comments: bool,
+}
+
+/// How many characters a line of a formatted pattern may have, where nothing says otherwise.
+pub const LINE_WIDTH: usize = 80;
+
+/// How the patterns of a file with these settings are formatted.
+pub fn format_with(choices: Choices<'_>, settings: &FileSettings<'_>) -> FormatSettings
+    ensures style { result.style ≡ unwrap_or choices.entry.format.style
+        (unwrap_or (style_after None (options_of settings.now)) FormatStyle.Default) }
+    ensures width { result.width ≡ unwrap_or choices.entry.format.width
+        (unwrap_or (width_after None (options_of settings.now)) 80) }
+    ensures comments { result.drops_comments ≡ choices.entry.format.drops_comments || drops_after false (options_of settings.now) }
+{
+    let given = choices.format;
+    FormatSettings {
+        style: given
+            .style
+            .unwrap_or(settings.style().unwrap_or(FormatStyle::Default)),
+        width: given
+            .width
+            .unwrap_or(settings.width().unwrap_or(LINE_WIDTH)),
+        drops_comments: given.drops_comments || settings.drops_comments(),
+    }
 }
 
 /// Whether it is chosen how a file with these settings has patterns: by the arguments, or by its configuration.

@@ -1,7 +1,7 @@
 //! What a configuration says of files.
-use crate::choices::LEVELS;
+use crate::choices::{FormatStyle, LEVELS, STYLES};
 use crate::config_error::{Problem, TableError};
-use crate::tables::{flag_of, text_of, texts_of};
+use crate::tables::{flag_of, number_of, text_of, texts_of, wrong_type};
 use fancy_lex::flag_word::flags_named;
 use lint_rules::chosen::Level;
 use std::alloc::Global;
@@ -16,12 +16,25 @@ pub(crate) enum FileOption {
     Textmate(bool),
     /// The keys under which the files, which are JSON, have patterns.
     Keys(Vec<String>),
+    /// How patterns are formatted.
+    Style(FormatStyle),
+    /// How many characters a line of a formatted pattern may have.
+    Width(usize),
+    /// Whether the canonical text of a pattern may lack its comments.
+    DropComments(bool),
     /// The rules that have the level.
     Rules(Level, Vec<String>),
 }
 
 /// The keys of options, besides those of levels.
-static KEYS: [&str; 3] = ["flags", "textmate", "keys"];
+static KEYS: [&str; 6] = [
+    "flags",
+    "textmate",
+    "keys",
+    "style",
+    "width",
+    "drop-comments",
+];
 
 /// Whether an option has the key.
 pub(crate) fn is_option(key: &str) -> bool {
@@ -38,6 +51,34 @@ fn flags_of(alloc: Global, key: &'static str, value: &Value) -> Result<u32, Tabl
             Err(TableError::Refused(Problem::UnknownFlags(word)))
         }
     }
+}
+
+/// The style that a value names.
+fn style_of(key: &'static str, value: &Value) -> Result<FormatStyle, TableError> {
+    let text = text_of(key, value)?;
+    for (name, style) in STYLES.iter() {
+        if *name == text {
+            return Ok(*style);
+        }
+    }
+    Err(wrong_type(
+        key,
+        "\"default\", \"verbose\", \"compact\" or \"canonical\"",
+    ))
+}
+
+/// The options of a table on how patterns are formatted.
+fn add_format_options(table: &Table, options: &mut Vec<FileOption>) -> Result<(), TableError> {
+    if let Some(value) = table.get("style") {
+        options.push(FileOption::Style(style_of("style", value)?))?;
+    }
+    if let Some(value) = table.get("width") {
+        options.push(FileOption::Width(number_of("width", value)?))?;
+    }
+    if let Some(value) = table.get("drop-comments") {
+        options.push(FileOption::DropComments(flag_of("drop-comments", value)?))?;
+    }
+    Ok(())
 }
 
 /// The names of a list, each of which has to be one of `rules`.
@@ -74,6 +115,7 @@ pub(crate) fn options_of(
     if let Some(value) = table.get("keys") {
         options.push(FileOption::Keys(texts_of(alloc, "keys", value)?))?;
     }
+    add_format_options(table, &mut options)?;
     for (key, level) in LEVELS.iter() {
         if let Some(value) = table.get(*key) {
             let names = rules_of(alloc, key, value, rules)?;

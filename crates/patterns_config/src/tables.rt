@@ -4,7 +4,7 @@ use std::alloc::Global;
 use toml::{Table, Value};
 
 /// That the value of the key is not as expected.
-fn wrong_type(key: &'static str, expected: &'static str) -> TableError {
+pub(crate) fn wrong_type(key: &'static str, expected: &'static str) -> TableError {
     TableError::Refused(Problem::WrongType { key, expected })
 }
 
@@ -16,6 +16,17 @@ pub(crate) fn text_of<'t>(key: &'static str, value: &'t Value) -> Result<&'t str
 /// Whether the value is true.
 pub(crate) fn flag_of(key: &'static str, value: &Value) -> Result<bool, TableError> {
     value.as_bool().ok_or(wrong_type(key, "true or false"))
+}
+
+/// The number from 1 that the value is.
+pub(crate) fn number_of(key: &'static str, value: &Value) -> Result<usize, TableError> {
+    match value
+        .as_integer()
+        .and_then(|number| usize::try_from(number).ok())
+    {
+        Some(number) if number > 0 => Ok(number),
+        Some(_) | None => Err(wrong_type(key, "a number from 1")),
+    }
 }
 
 /// The texts of a list that the value is.

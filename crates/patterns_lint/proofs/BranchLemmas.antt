@@ -1,7 +1,7 @@
 -- Pieces of branches, one by one.
 use Rattle.std.proofs.Common.{◌≡◌, ℕ, suc, ◌+◌, ◌<◌, ◌≤◌, ◌&&◌, true, false, List, ◌∷◌, length, drop, get_or}
 use Rattle.std.proofs.Common.{sym, ap, ◌∙◌, drop-cons, add-one}
-use Rattle.std.proofs.lemmas.List.{drop_all, nil_from_length}
+use Rattle.std.proofs.lemmas.List.{drop_all, nil_from_length, length-map}
 use Rattle.fancy_syntax.specs.View.{view, views}
 use Rattle.fancy_syntax.specs.declared.expr.Expr.{Expr}
 use Rattle.patterns_lint.specs.Branches.{covers, begins_with}
@@ -34,3 +34,7 @@ begins_none es i e rest h is none =
 pub begins_end : (es : List Expr) (i : ℕ) (rest : List Expr) → length es ≤ i →
     begins_with (views (drop i es)) (views rest) ≡ true
 begins_end es i rest h = ap (λ us. begins_with (views us) (views rest)) (drop_all i es h)
+
+-- there are as many trees as expressions
+pub length_views : (es : List Expr) → length (views es) ≡ length es
+length_views es = length-map es view

@@ -11,7 +11,7 @@ use Rattle.fancy_syntax.specs.declared.expr.Expr.{Expr, AstNode, SubroutineCall,
 use Rattle.fancy_syntax.specs.declared.expr.Expr.{map-Expr}
 use Rattle.fancy_syntax.specs.declared.expr.Expr.{fold_out-Expr, the_lemmas}
 use Rattle.fancy_syntax.specs.declared.expr.Expr.TheVariants as variant
-use Rattle.patterns_lint.specs.Empty.{matches_only_empty, can_match_empty, has_group}
+use Rattle.patterns_lint.specs.Empty.{matches_only_empty, can_match_empty, matches_everywhere, has_group}
 use Rattle.patterns_lint.specs.Targets.{is_unresolved_call}
 
 -- what holds of each node that is as it was read
@@ -40,6 +40,9 @@ ast_only_empty n p = of_ast matches_only_empty false (λ r q. refl) (λ name q t
 pub ast_can_be_empty : (n : ast.AstNode) (p : ℕ) → can_match_empty (view_ast n p) ≡ false
 ast_can_be_empty n p = of_ast can_match_empty false (λ r q. refl) (λ name q t. refl) n p
 
+pub ast_everywhere : (n : ast.AstNode) (p : ℕ) → matches_everywhere (view_ast n p) ≡ false
+ast_everywhere n p = of_ast matches_everywhere false (λ r q. refl) (λ name q t. refl) n p
+
 pub ast_has_group : (n : ast.AstNode) (p : ℕ) → has_group (view_ast n p) ≡ false
 ast_has_group n p = of_ast has_group false (λ r q. refl) (λ name q t. refl) n p
 
@@ -50,6 +53,7 @@ pub ruleset node_steps = (
   view_AstNode,
   ast_only_empty,
   ast_can_be_empty,
+  ast_everywhere,
   ast_has_group,
   ast_is_unresolved,
 )

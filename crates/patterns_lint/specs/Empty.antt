@@ -1,5 +1,5 @@
 -- What matches the empty text, as far as the form of a tree says.
-use Rattle.std.specs.Prelude.{Bool, true, false, ◌&&◌, ◌||◌, ◌==◌}
+use Rattle.std.specs.Prelude.{Bool, true, false, ◌&&◌, ◌||◌, ◌==◌, not}
 use Rattle.fancy_grammar.specs.Label as label
 use Rattle.fancy_grammar.specs.Label.{Leaf, Wrap, Row}
 use Rattle.fancy_grammar.specs.Tree.{Tree, leaf, over, row, Trees, no_trees, more_trees}
@@ -69,6 +69,28 @@ abbrev mutual
   any_can_match_empty (more_trees t ts) = can_match_empty t || any_can_match_empty ts
 
 abbrev mutual
+  -- whether a tree matches the empty text at every position: what may repeat no times does, an alternation where one
+  -- branch does, and a concatenation where all that it holds does
+  pub matches_everywhere : Tree → Bool
+  matches_everywhere (leaf label.empty) = true
+  matches_everywhere (leaf l) = false
+  matches_everywhere (over label.group t) = matches_everywhere t
+  matches_everywhere (over (label.repeat lo hi greedy) t) = (lo == 0) || matches_everywhere t
+  matches_everywhere (over label.atomic_group t) = matches_everywhere t
+  matches_everywhere (over w t) = false
+  matches_everywhere (row label.concat ts) = all_match_everywhere ts
+  matches_everywhere (row label.alt ts) = any_matches_everywhere ts
+  matches_everywhere (row r ts) = false
+
+  pub all_match_everywhere : Trees → Bool
+  all_match_everywhere no_trees = true
+  all_match_everywhere (more_trees t ts) = matches_everywhere t && all_match_everywhere ts
+
+  pub any_matches_everywhere : Trees → Bool
+  any_matches_everywhere no_trees = false
+  any_matches_everywhere (more_trees t ts) = matches_everywhere t || any_matches_everywhere ts
+
+abbrev mutual
   -- whether a capturing group is in a tree
   pub has_group : Tree → Bool
   has_group (leaf l) = false
@@ -80,3 +102,14 @@ abbrev mutual
   pub any_has_group : Trees → Bool
   any_has_group no_trees = false
   any_has_group (more_trees t ts) = has_group t || any_has_group ts
+
+-- the empty pattern
+abbrev pub is_empty : Tree → Bool
+is_empty (leaf label.empty) = true
+is_empty _ = false
+
+-- a look-around whose contents match everywhere. One with a capturing group may be there for the group, and one with no
+-- contents is meant.
+abbrev pub is_useless_look_around : Tree → Bool
+is_useless_look_around (over (label.look_around l) t) = matches_everywhere t && not (has_group t) && not (is_empty t)
+is_useless_look_around _ = false

@@ -2,3 +2,5 @@ pub mod Empty
 pub mod Quantifiers
 pub mod Branches
 pub mod Targets
+pub mod Escapes
+pub mod Neighbours

@@ -3,6 +3,7 @@ use Rattle.std.specs.Prelude.{ℕ, Bool, false, ◌&&◌, ◌==◌, not, nat_lt,
 use Rattle.fancy_grammar.specs.Tree.{Tree, repeat}
 use Rattle.lint_rules.specs.declared.rule.Rule.{Rule}
 use Rattle.lint_rules.specs.declared.rule.Rule.TheVariants as rule
+use Rattle.patterns_lint.specs.declared.quantifiers.Surroundings.{Surroundings}
 use Rattle.patterns_lint.specs.Empty.{matches_only_empty, can_match_empty, has_group}
 
 -- the upper count of a quantifier without a limit
@@ -15,10 +16,18 @@ abbrev pub is_quantified_assertion : Tree → Bool
 is_quantified_assertion (repeat t lo hi greedy) = matches_only_empty t && not ((hi == 1) && has_group t)
 is_quantified_assertion _ = false
 
--- a quantifier without a limit on what can match the empty text, and other texts
-abbrev pub is_empty_loop : Tree → Bool
-is_empty_loop (repeat t lo hi greedy) = (hi == no_limit) && can_match_empty t && not (matches_only_empty t)
-is_empty_loop _ = false
+-- a quantifier without a limit on what can match the empty text, and other texts; but a possessive one, as all of an
+-- atomic group, tries no other way
+abbrev pub is_empty_loop : Surroundings → Tree → Bool
+is_empty_loop s (repeat t lo hi greedy) =
+    (hi == no_limit) && can_match_empty t && not (matches_only_empty t) && not s.is_atomic
+is_empty_loop _ _ = false
+
+-- a lazy quantifier that nothing follows, so that it repeats only its minimum; where there are calls, something may
+-- follow the group that is called
+abbrev pub is_lazy_at_end : Surroundings → Tree → Bool
+is_lazy_at_end s (repeat t lo hi greedy) = not greedy && nat_lt lo hi && s.is_at_end && not s.has_calls
+is_lazy_at_end _ _ = false
 
 -- a quantifier whose minimum is above its maximum
 abbrev pub is_invalid_quantifier : Tree → Bool
@@ -26,21 +35,22 @@ is_invalid_quantifier (repeat t lo hi greedy) = nat_lt hi lo
 is_invalid_quantifier _ = false
 
 -- a quantifier that repeats once; where a branch beside it differs from it in the count alone, it shows the difference
-abbrev pub is_useless_quantifier : Bool → Tree → Bool
-is_useless_quantifier has_count_twin (repeat t lo hi greedy) = (lo == 1) && (hi == 1) && not has_count_twin
+abbrev pub is_useless_quantifier : Surroundings → Tree → Bool
+is_useless_quantifier s (repeat t lo hi greedy) = (lo == 1) && (hi == 1) && not s.has_count_twin
 is_useless_quantifier _ _ = false
 
 -- a quantifier that repeats no times; but where there are calls, a group may be defined so
-abbrev pub is_zero_quantifier : Bool → Tree → Bool
-is_zero_quantifier has_calls (repeat t lo hi greedy) = (lo == 0) && (hi == 0) && not (has_calls && has_group t)
+abbrev pub is_zero_quantifier : Surroundings → Tree → Bool
+is_zero_quantifier s (repeat t lo hi greedy) = (lo == 0) && (hi == 0) && not (s.has_calls && has_group t)
 is_zero_quantifier _ _ = false
 
 -- the rule that reports the quantifier of a node, if one does
-abbrev pub quantifier_rule : Bool → Bool → Tree → Option Rule
-quantifier_rule has_calls has_count_twin t =
+abbrev pub quantifier_rule : Surroundings → Tree → Option Rule
+quantifier_rule s t =
     if is_invalid_quantifier t then Some rule.InvalidQuantifier
-    else if is_zero_quantifier has_calls t then Some rule.ZeroQuantifier
-    else if is_useless_quantifier has_count_twin t then Some rule.UselessQuantifier
+    else if is_zero_quantifier s t then Some rule.ZeroQuantifier
+    else if is_useless_quantifier s t then Some rule.UselessQuantifier
     else if is_quantified_assertion t then Some rule.QuantifiedAssertion
-    else if is_empty_loop t then Some rule.EmptyLoop
+    else if is_empty_loop s t then Some rule.EmptyLoop
+    else if is_lazy_at_end s t then Some rule.LazyAtEnd
     else None

@@ -1,14 +1,17 @@
 //! Branches that are likely mistakes.
-ghost use Rattle.std.specs.Prelude.{◌≡◌, ◌↔◌, ℕ, true, false, Some, IsTrue, IfOk, IfSome, IsSomeAnd, slice_get};
+ghost use Rattle.std.specs.Prelude.{◌≡◌, ◌↔◌, ℕ, true, Some, chars, IsTrue, IfOk, IfSome, IsSomeAnd, slice_get};
 ghost use Rattle.fancy_syntax.specs.View.{view, views};
 ghost use Rattle.patterns_lint.specs.Branches as spec;
+ghost use Rattle.patterns_lint.specs.Empty as empty_spec;
+ghost use Rattle.patterns_lint.specs.declared.branches.Following.TheVariants as following;
 ghost use Rattle.lint_rules.specs.declared.problem.Problem.TheVariants as reported;
 
+use crate::empty::matches_everywhere;
 use crate::fingerprint::Fingerprint;
 use class_rules::beginnings::{begins_within, operand, pieces};
 use class_rules::known_classes::KnownClasses;
-use fancy_lex::text::is_same_text;
-use fancy_syntax::expr::Expr;
+use fancy_lex::text::{is_same_text, next};
+use fancy_syntax::expr::{Assertion, Expr};
 use fancy_syntax::span::Span;
 use fancy_syntax::spanned::SpannedNode;
 use lint_rules::problem::Problem;
@@ -54,6 +57,94 @@ fn is_unreachable(earlier: &Expr, later: &Expr) -> bool
     ensures { result ≡ spec.is_unreachable (view earlier.now) (view later.now) }
 {
     begins_with(pieces(earlier), pieces(later))
+}
+
+/// Whether the character is a letter, a digit or `_` of ASCII.
+pub(crate) fn is_word_character(c: char) -> bool
+    ensures { result ≡ spec.is_word_character c }
+{
+    matches!(c, '0'..='9' | 'A'..='Z' | 'a'..='z' | '_')
+}
+
+/// The only character of the text.
+pub(crate) fn only_character(text: &str) -> Option<char>
+    ensures { result ≡ spec.only_character (chars text.now) }
+{
+    let (c, rest) = next(text)?;
+    match next(rest) {
+        Some(_) => None,
+        None => Some(c),
+    }
+}
+
+/// Whether both are characters of ASCII, one of a word and the other not.
+fn differ_in_word(one: char, other: char) -> bool
+    ensures { result ≡ spec.differ_in_word one other }
+{
+    if one as u32 >= 0x80 || other as u32 >= 0x80 {
+        false
+    } else if is_word_character(one) {
+        !is_word_character(other)
+    } else {
+        is_word_character(other)
+    }
+}
+
+/// Whether each of the two texts is one character of ASCII, one of a word and the other not.
+fn texts_differ(one: &str, other: &str) -> bool
+    ensures { result ≡ spec.texts_differ (chars one.now) (chars other.now) }
+{
+    let Some(c) = only_character(one) else {
+        return false;
+    };
+    let Some(d) = only_character(other) else {
+        return false;
+    };
+    differ_in_word(c, d)
+}
+
+/// Whether a word boundary is between the two, which are literals of one character.
+fn is_boundary(one: &Expr, other: &Expr) -> bool
+    ensures { result ≡ spec.is_boundary (view one.now) (view other.now) }
+{
+    match (one, other) {
+        (Expr::Literal { val, .. }, Expr::Literal { val: next, .. }) => {
+            texts_differ(val.as_str(), next.as_str())
+        }
+        _ => false,
+    }
+}
+
+/// Whether a word boundary is before the piece of this index.
+fn is_boundary_before(pieces: &[Expr], i: usize) -> bool
+    ensures { IsTrue result → spec.IsBoundaryBefore i (views pieces.now) }
+{
+    let Some(before) = i.checked_sub(1) else {
+        return false;
+    };
+    let Some(one) = pieces.get(before) else {
+        return false;
+    };
+    let Some(other) = pieces.get(i) else {
+        return false;
+    };
+    is_boundary(one, other)
+}
+
+/// Whether the later branch begins with the literals that are all of the earlier one, and what follows the alternation
+/// is met after these.
+#[tactic(auto, using(crate::proofs::BranchLemmas::length_views))]
+fn is_passed(following: Following, earlier: &Expr, later: &Expr) -> bool
+    ensures { IsTrue result → spec.IsPassed following (view earlier.now) (view later.now) }
+{
+    match following {
+        Following::Nothing => is_unreachable(earlier, later),
+        Following::WordBoundary => {
+            is_unreachable(earlier, later)
+                && is_boundary_before(pieces(later), pieces(earlier).len())
+        }
+        Following::More => false,
+    }
 }
 
 /// Whether the two are equal.
@@ -141,17 +232,96 @@ fn is_character(tree: &Expr) -> bool {
     )
 }
 
+/// Whether the text is this character.
+pub(crate) fn is_character_text(text: &str, c: char) -> bool
+    ensures { result ≡ spec.is_character (spec.only_character (chars text.now)) c }
+{
+    match only_character(text) {
+        Some(d) => d == c,
+        None => false,
+    }
+}
+
+/// Whether the node is a backslash.
+fn is_backslash(node: &Expr) -> bool
+    ensures { result ≡ spec.is_backslash (view node.now) }
+{
+    match node {
+        Expr::Literal { val, .. } => is_character_text(val.as_str(), '\\'),
+        _ => false,
+    }
+}
+
+/// Whether the node matches the character, as far as it is that literal or a dot.
+fn may_be(node: &Expr, c: char) -> bool
+    ensures { result ≡ spec.may_be (view node.now) c }
+{
+    match node {
+        Expr::Literal { val, .. } => is_character_text(val.as_str(), c),
+        Expr::Any { .. } => true,
+        _ => false,
+    }
+}
+
+/// Whether the branch is a backslash and what may be this character.
+fn is_escape_of(branch: &Expr, delimiter: char) -> bool
+    ensures { IsTrue result → spec.IsEscapeOf (view branch.now) delimiter }
+{
+    let all = pieces(branch);
+    let Some(first) = all.get(0) else {
+        return false;
+    };
+    let Some(second) = all.get(1) else {
+        return false;
+    };
+    all.len() == 2 && is_backslash(first) && may_be(second, delimiter)
+}
+
+/// What follows a node in the pattern, or in a group that is left at its first match.
+#[derive(Clone, Copy, PartialEq, Eq)]
+pub(crate) enum Following {
+    Nothing,
+    /// `\b`, and nothing after it.
+    WordBoundary,
+    More,
+}
+
+/// Whether the node is `\b`.
+fn is_word_boundary(node: &Expr) -> bool {
+    matches!(node, Expr::Assertion(Assertion::WordBoundary))
+}
+
+impl Following {
+    /// What follows the piece of this index, if this follows all of the pieces.
+    pub(crate) fn of_piece(self, pieces: &[Expr], index: usize) -> Following {
+        match pieces.get(index.saturating_add(1)..) {
+            Some([]) => self,
+            Some([last]) if self == Following::Nothing && is_word_boundary(last) => {
+                Following::WordBoundary
+            }
+            _ => Following::More,
+        }
+    }
+
+    /// This, if the condition holds.
+    pub(crate) fn only_if(self, condition: bool) -> Following {
+        if condition { self } else { Following::More }
+    }
+}
+
 /// Where a branch is.
 #[derive(Clone, Copy)]
 pub(crate) struct Situation {
     /// Whether no branch follows it.
     pub(crate) is_last: bool,
-    /// Whether nothing follows its alternation; otherwise another branch may be tried after one that matched.
-    pub(crate) is_at_end: bool,
+    /// What follows its alternation; if it is more than `\b`, another branch may be tried after one that matched.
+    pub(crate) following: Following,
     /// Whether an engine may add `\b` after its alternation, which is a list of words.
     pub(crate) may_be_extended: bool,
     /// Whether the pattern has calls, so that something may follow where the alternation is called.
     pub(crate) has_calls: bool,
+    /// If the alternation is all of a loop, the character that follows the loop.
+    pub(crate) delimiter: Option<char>,
 }
 
 /// The branches before one, by their fingerprints: of each the first, so that a branch is compared with few.
@@ -167,6 +337,8 @@ pub(crate) struct Earlier<'b> {
     literals: HashMap<u64, usize>,
     /// The first of the others.
     others: Vec<usize>,
+    /// The first one that matches the empty text everywhere.
+    everywhere: Option<usize>,
 }
 
 /// Adds the branch of this index, where none is known by the fingerprint.
@@ -190,6 +362,7 @@ impl<'b> Earlier<'b> {
             whole: HashMap::new(alloc),
             literals: HashMap::new(alloc),
             others: Vec::new(alloc),
+            everywhere: None,
         }
     }
 
@@ -202,6 +375,10 @@ impl<'b> Earlier<'b> {
         let i = self.nodes.len();
         self.nodes.push(branch)?;
         add_first(&mut self.whole, whole, i)?;
+        let is_reported = i > 0 && matches!(branch.expr(), Expr::Empty);
+        if self.everywhere.is_none() && !is_reported && matches_everywhere(branch.expr()) {
+            self.everywhere = Some(i);
+        }
         if let Some(text) = literals_fingerprint(branch.expr()) {
             return add_first(&mut self.literals, text, i);
         }
@@ -229,10 +406,10 @@ impl<'b> Earlier<'b> {
         None
     }
 
-    /// The branch whose literals this one begins with.
-    fn beginning_of(&self, earlier: &[Expr], branch: &Expr) -> Option<usize>
+    /// The branch whose literals this one begins with, so that it matches first.
+    fn beginning_of(&self, earlier: &[Expr], branch: &Expr, following: Following) -> Option<usize>
         ensures { IfSome result (λ i. IsSomeAnd (slice_get (views earlier.now) i)
-            (λ e. spec.is_unreachable e (view branch.now) ≡ true)) }
+            (λ e. spec.IsPassed following e (view branch.now))) }
     {
         let mut text = Fingerprint::new();
         for piece in pieces(branch) {
@@ -242,12 +419,26 @@ impl<'b> Earlier<'b> {
             text = text.with(val.as_str());
             if let Some(i) = self.literals.get(&text.number())
                 && let Some(beginning) = earlier.get(*i)
-                && is_unreachable(beginning, branch)
+                && is_passed(following, beginning, branch)
             {
                 return Some(*i);
             }
         }
         None
+    }
+
+    /// The first branch that matches the empty text everywhere.
+    fn matching_everywhere(&self, earlier: &[Expr]) -> Option<usize>
+        ensures { IfSome result (λ i. IsSomeAnd (slice_get (views earlier.now) i)
+            (λ e. empty_spec.matches_everywhere e ≡ true)) }
+    {
+        let i = self.everywhere?;
+        let one = earlier.get(i)?;
+        if matches_everywhere(one) {
+            Some(i)
+        } else {
+            None
+        }
     }
 
     /// The branch of literals that this one begins with, but for a quantifier on the last of them.
@@ -310,6 +501,46 @@ impl<'b> Earlier<'b> {
         Ok(None)
     }
 
+    /// The number of the branch that matches the backslash of this one, which escapes the character that follows the loop.
+    fn taking_escape(
+        &self,
+        branch: SpannedNode<'_>,
+        delimiter: Option<char>,
+        known: &mut KnownClasses,
+    ) -> Result<Option<usize>, AllocError> {
+        let Some(delimiter) = delimiter else {
+            return Ok(None);
+        };
+        if !is_escape_of(branch.expr(), delimiter) {
+            return Ok(None);
+        }
+        for i in &self.others {
+            if self.is_beginning(*i, branch, known)? {
+                return Ok(Some(i.saturating_add(1)));
+            }
+        }
+        Ok(None)
+    }
+
+    /// The branch that matches wherever this one does, if nothing follows.
+    fn matching_first(
+        &self,
+        earlier: &[Expr],
+        branch: SpannedNode<'_>,
+        known: &mut KnownClasses,
+    ) -> Result<Option<usize>, AllocError> {
+        if let Some(i) = self.beginning_of(earlier, branch.expr(), Following::Nothing) {
+            return Ok(Some(i));
+        }
+        if let Expr::Empty = branch.expr() {
+            return Ok(None);
+        }
+        if let Some(i) = self.matching_everywhere(earlier) {
+            return Ok(Some(i));
+        }
+        self.covering(branch, known)
+    }
+
     /// What is wrong with a branch after these, apart from sets of characters. It has this fingerprint.
     fn problem_of_text(
         &self,
@@ -339,7 +570,7 @@ impl<'b> Earlier<'b> {
         known: &mut KnownClasses,
     ) -> Result<Option<Problem<'static>>, AllocError>
         ensures followed { IfOk result (λ problem.
-            situation.is_at_end ≡ false → (i : ℕ) → problem ≡ Some (reported.UnreachableBranch i) → ⊥) }
+            situation.following ≡ following.More → (i : ℕ) → problem ≡ Some (reported.UnreachableBranch i) → ⊥) }
         ensures extended { IfOk result (λ problem.
             situation.may_be_extended ≡ true → (i : ℕ) → problem ≡ Some (reported.UnreachableBranch i) → ⊥) }
     {
@@ -347,12 +578,19 @@ impl<'b> Earlier<'b> {
         if let Some(problem) = self.problem_of_text(earlier, tree, whole, situation.is_last) {
             return Ok(Some(problem));
         }
-        if !situation.is_at_end || situation.may_be_extended || situation.has_calls {
+        if situation.may_be_extended || situation.has_calls {
             return Ok(None);
         }
-        let covering = match self.beginning_of(earlier, tree) {
-            Some(i) => Some(i),
-            None => self.covering(branch, known)?,
+        if let Some(earlier) = self.taking_escape(branch, situation.delimiter, known)? {
+            return Ok(Some(Problem::UnusedEscape { earlier }));
+        }
+        if let Following::More = situation.following {
+            return Ok(None);
+        }
+        let covering = if let Following::WordBoundary = situation.following {
+            self.beginning_of(earlier, tree, Following::WordBoundary)
+        } else {
+            self.matching_first(earlier, branch, known)?
         };
         let Some(i) = covering else {
             return Ok(None);

@@ -18,13 +18,13 @@ fn only_character(class: &str) -> Option<char>
     Some(c)
 }
 
-/// Whether the node is a class of one letter or digit. A digit after another is none: with no brackets the two would be
-/// one number.
-pub(crate) fn is_single_character_class(tree: &Expr, before: &str) -> bool {
-    let Expr::Delegate { inner, .. } = tree else {
+/// Whether the node, which has this text, is a class of one letter or digit that is written as itself. A digit after another
+/// is none: with no brackets the two would be one number.
+pub(crate) fn is_single_character_class(tree: &Expr, text: &str, before: &str) -> bool {
+    let Expr::Delegate { .. } = tree else {
         return false;
     };
-    match only_character(inner.as_str()) {
+    match only_character(text) {
         Some(c) => !(c.is_ascii_digit() && before.ends_with(|d: char| d.is_ascii_digit())),
         None => false,
     }

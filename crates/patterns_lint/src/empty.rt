@@ -142,6 +142,96 @@ fn any_can_match_empty(trees: &[Expr]) -> bool
     false
 }
 
+/// Whether the absent form matches at every position: none is known to.
+fn absent_matches_everywhere(absent: &Absent) -> bool
+    ensures { result ≡ spec.matches_everywhere (view_absent absent.now) }
+{
+    match absent {
+        Absent::Stopper(_) | Absent::Clear | Absent::Repeater(_) => false,
+        Absent::Expression { .. } => false,
+    }
+}
+
+/// Whether the tree matches the empty text at every position, as far as its form says.
+#[tactic(auto, using(crate::proofs::NodeLemmas::node_steps))]
+#[cycle(everywhere)]
+pub(crate) fn matches_everywhere(tree: &Expr) -> bool
+    ensures { result ≡ spec.matches_everywhere (view tree.now) }
+{
+    match tree {
+        Expr::Empty => true,
+        Expr::Absent(absent) => absent_matches_everywhere(absent),
+        Expr::Concat(trees) => all_match_everywhere(trees),
+        Expr::Alt(trees) => any_matches_everywhere(trees),
+        Expr::Group(child) => matches_everywhere(child),
+        Expr::AtomicGroup(child) => matches_everywhere(child),
+        Expr::Repeat { child, lo, .. } => *lo == 0 || matches_everywhere(child),
+        Expr::Assertion(_)
+        | Expr::LookAround(..)
+        | Expr::KeepOut
+        | Expr::ContinueFromPreviousMatchEnd
+        | Expr::BackrefExistsCondition { .. }
+        | Expr::DefineGroup { .. }
+        | Expr::Conditional { .. }
+        | Expr::Any { .. }
+        | Expr::GeneralNewline { .. }
+        | Expr::Literal { .. }
+        | Expr::LiteralBytes { .. }
+        | Expr::Delegate { .. }
+        | Expr::Backref { .. }
+        | Expr::BackrefWithRelativeRecursionLevel { .. }
+        | Expr::BacktrackingControlVerb(_)
+        | Expr::SubroutineCall(_) => false,
+        Expr::AstNode(..) => false,
+    }
+}
+
+/// Whether each of the trees matches the empty text at every position.
+#[cycle(everywhere)]
+fn all_match_everywhere(trees: &[Expr]) -> bool
+    ensures { result ≡ spec.all_match_everywhere (trees_of (views trees.now)) }
+{
+    for tree in trees {
+        if !matches_everywhere(tree) {
+            return false;
+        }
+    }
+    true
+}
+
+/// Whether one of the trees matches the empty text at every position.
+#[cycle(everywhere)]
+fn any_matches_everywhere(trees: &[Expr]) -> bool
+    ensures { result ≡ spec.any_matches_everywhere (trees_of (views trees.now)) }
+{
+    for tree in trees {
+        if matches_everywhere(tree) {
+            return true;
+        }
+    }
+    false
+}
+
+/// Whether it is a look-around whose contents match everywhere. One with a capturing group may be there for the group, and
+/// one with no contents is meant: `(?!)` never matches.
+pub(crate) fn is_useless_look_around(tree: &Expr) -> bool
+    ensures { result ≡ spec.is_useless_look_around (view tree.now) }
+{
+    match tree {
+        Expr::LookAround(child, _) => {
+            matches_everywhere(child) && !has_group(child) && !is_empty(child)
+        }
+        _ => false,
+    }
+}
+
+/// Whether it is the empty pattern.
+fn is_empty(tree: &Expr) -> bool
+    ensures { result ≡ spec.is_empty (view tree.now) }
+{
+    matches!(tree, Expr::Empty)
+}
+
 /// Whether the tree holds a capturing group.
 #[tactic(auto, using(crate::proofs::NodeLemmas::node_steps))]
 #[cycle(has_group)]

@@ -1,29 +1,49 @@
 //! All that the rules find in a pattern.
+use crate::branches::Following;
 use crate::captures::missing_captures;
+use crate::escapes::containing_escape;
 use crate::flags::useless_flags;
 use crate::known::Known;
+use crate::neighbours::Neighbour;
 use crate::references::{Ways, follow};
 use crate::scan::{Around, PatternInfo, scan};
 use crate::slow::SlowParts;
 use crate::walk::Walk;
 use backtracking::attack::Attack;
+use class_rules::class_problem::{ClassFinding, ClassProblem};
 use class_rules::class_walk::class_findings;
 use dialects::spelling::{DifferentSpelling, spellings};
-use fancy_syntax::spanned::SpannedTree;
+use fancy_syntax::spanned::{SpannedNode, SpannedTree};
 use lint_rules::attack_text::AttackText;
 use lint_rules::chosen::{Chosen, Level};
 use lint_rules::problem::{Found, Problem};
 use patterns_text::grammar_rule::GrammarRule;
 use patterns_text::nodes::nodes_of;
+use patterns_text::position::Spot;
 use patterns_text::subject::Subject;
 use std::alloc::AllocError;
 
 /// The pattern as a node.
 static ROOT: Around = Around {
-    is_at_end: true,
+    following: Following::Nothing,
     is_whole: true,
     has_count_twin: false,
+    is_atomic: false,
+    beside: (Neighbour::Unknown, Neighbour::Unknown),
+    next: None,
+    delimiter: None,
 };
+
+/// What is wrong with a class, or with a branch of one character. `nodes` are those of the pattern, in preorder.
+fn of_class<'a>(finding: ClassFinding, pattern: &str, nodes: &[SpannedNode<'_>]) -> Found<'a> {
+    let mut found = Found::of_class(finding);
+    if finding.problem == ClassProblem::DuplicateCharacters
+        && let Some(escape) = containing_escape(finding.span, pattern, nodes)
+    {
+        found.problem = Problem::CharactersInEscape { escape };
+    }
+    found
+}
 
 /// Adds what other dialects read otherwise.
 fn add_differences(
@@ -90,7 +110,7 @@ fn problems<'a>(
         total: tree.total_groups,
         has_calls: tree.contains_subroutines,
         is_by_name: tree.numbered_groups_ignored,
-        is_complete: grammar.is_some(),
+        is_complete: grammar.is_some() || matches!(at.spot, Spot::Source(_)),
         begin_groups: grammar.and_then(|rule| rule.begin_groups),
     };
     let mut walk = Walk::new(alloc);
@@ -102,14 +122,12 @@ fn problems<'a>(
     ways.report_unused()?;
     let mut found = walk.found;
     found.extend_from_slice(&ways.walk.found)?;
+    let nodes = nodes_of(alloc, parsed)?;
     for finding in class_findings(alloc, parsed.root(), pattern, &mut known.classes)? {
-        found.push(Found::of_class(finding))?;
+        found.push(of_class(finding, pattern, &nodes))?;
     }
     found.extend_from_slice(&useless_flags(alloc, pattern, &parsed.trivia)?)?;
-    add_differences(
-        &mut found,
-        &spellings(alloc, pattern, &nodes_of(alloc, parsed)?)?,
-    )?;
+    add_differences(&mut found, &spellings(alloc, pattern, &nodes)?)?;
     if let Some(rule) = grammar {
         let captures = &rule.captures;
         found.extend_from_slice(&missing_captures(alloc, pattern, tree.total_groups, captures)?)?;

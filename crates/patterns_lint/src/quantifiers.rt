@@ -7,6 +7,19 @@ use crate::empty::{can_match_empty, has_group, matches_only_empty};
 use fancy_syntax::expr::Expr;
 use lint_rules::rule::Rule;
 
+/// What the rules on quantifiers know of a node from what is around it.
+#[derive(Clone, Copy)]
+pub(crate) struct Surroundings {
+    /// Whether the pattern has calls, so that a group may also be matched where it is called.
+    pub(crate) has_calls: bool,
+    /// Whether the node is a branch beside one that differs from it in the count alone.
+    pub(crate) has_count_twin: bool,
+    /// Whether the node is all of an atomic group, as if its quantifier is possessive.
+    pub(crate) is_atomic: bool,
+    /// Whether nothing follows the node in the pattern, or in a group that is left at its first match.
+    pub(crate) is_at_end: bool,
+}
+
 /// Whether what is repeated matches nothing but the empty text. An optional one that holds a group is no such case:
 /// a condition may test later whether the group matched.
 fn is_quantified_assertion(tree: &Expr) -> bool
@@ -20,13 +33,29 @@ fn is_quantified_assertion(tree: &Expr) -> bool
     }
 }
 
-/// Whether it repeats without a limit what can match the empty text, and more.
-fn is_empty_loop(tree: &Expr) -> bool
-    ensures { result ≡ spec.is_empty_loop (view tree.now) }
+/// Whether it repeats without a limit what can match the empty text, and more. A possessive one is no such case: it tries
+/// no other way.
+fn is_empty_loop(tree: &Expr, around: Surroundings) -> bool
+    ensures { result ≡ spec.is_empty_loop around (view tree.now) }
 {
     match tree {
         Expr::Repeat { child, hi, .. } => {
-            *hi == usize::MAX && can_match_empty(child) && !matches_only_empty(child)
+            *hi == usize::MAX
+                && can_match_empty(child)
+                && !matches_only_empty(child)
+                && !around.is_atomic
+        }
+        _ => false,
+    }
+}
+
+/// Whether it is lazy, and nothing follows it, so that it repeats only its minimum.
+fn is_lazy_at_end(tree: &Expr, around: Surroundings) -> bool
+    ensures { result ≡ spec.is_lazy_at_end around (view tree.now) }
+{
+    match tree {
+        Expr::Repeat { lo, hi, greedy, .. } => {
+            !*greedy && *lo < *hi && around.is_at_end && !around.has_calls
         }
         _ => false,
     }
@@ -43,18 +72,18 @@ fn is_invalid_quantifier(tree: &Expr) -> bool
 }
 
 /// Whether it repeats exactly once. Where a branch beside it differs from it in the count alone, it is no mistake.
-fn is_useless_quantifier(tree: &Expr, has_count_twin: bool) -> bool
-    ensures { result ≡ spec.is_useless_quantifier has_count_twin (view tree.now) }
+fn is_useless_quantifier(tree: &Expr, around: Surroundings) -> bool
+    ensures { result ≡ spec.is_useless_quantifier around (view tree.now) }
 {
     match tree {
-        Expr::Repeat { lo: 1, hi: 1, .. } => !has_count_twin,
+        Expr::Repeat { lo: 1, hi: 1, .. } => !around.has_count_twin,
         _ => false,
     }
 }
 
 /// Whether it repeats zero times. Where there are calls, one on a group is none: it may define the group for them.
-fn is_zero_quantifier(tree: &Expr, has_calls: bool) -> bool
-    ensures { result ≡ spec.is_zero_quantifier has_calls (view tree.now) }
+fn is_zero_quantifier(tree: &Expr, around: Surroundings) -> bool
+    ensures { result ≡ spec.is_zero_quantifier around (view tree.now) }
 {
     match tree {
         Expr::Repeat {
@@ -62,26 +91,27 @@ fn is_zero_quantifier(tree: &Expr, has_calls: bool) -> bool
             lo: 0,
             hi: 0,
             ..
-        } => !(has_calls && has_group(child)),
+        } => !(around.has_calls && has_group(child)),
         _ => false,
     }
 }
 
-/// The rule that reports the node's quantifier. `has_count_twin` says that a branch beside it differs from it in the count
-/// alone.
-pub(crate) fn quantifier_rule(tree: &Expr, has_calls: bool, has_count_twin: bool) -> Option<Rule>
-    ensures { result ≡ spec.quantifier_rule has_calls has_count_twin (view tree.now) }
+/// The rule that reports the node's quantifier.
+pub(crate) fn quantifier_rule(tree: &Expr, around: Surroundings) -> Option<Rule>
+    ensures { result ≡ spec.quantifier_rule around (view tree.now) }
 {
     if is_invalid_quantifier(tree) {
         Some(Rule::InvalidQuantifier)
-    } else if is_zero_quantifier(tree, has_calls) {
+    } else if is_zero_quantifier(tree, around) {
         Some(Rule::ZeroQuantifier)
-    } else if is_useless_quantifier(tree, has_count_twin) {
+    } else if is_useless_quantifier(tree, around) {
         Some(Rule::UselessQuantifier)
     } else if is_quantified_assertion(tree) {
         Some(Rule::QuantifiedAssertion)
-    } else if is_empty_loop(tree) {
+    } else if is_empty_loop(tree, around) {
         Some(Rule::EmptyLoop)
+    } else if is_lazy_at_end(tree, around) {
+        Some(Rule::LazyAtEnd)
     } else {
         None
     }

@@ -47,6 +47,8 @@ pub(crate) struct Ways<'a> {
     /// In a loop, how many groups had opened before the outermost one.
     before_loop: Option<usize>,
     pending: Vec<Pending>,
+    /// Whether a back reference to group 0 is reported already.
+    has_zero: bool,
 }
 
 /// The groups of the tree, as they are before the walk.
@@ -82,6 +84,7 @@ impl<'a> Ways<'a> {
             closed: Vec::new(alloc),
             before_loop: None,
             pending: Vec::new(alloc),
+            has_zero: false,
         })
     }
 
@@ -201,10 +204,23 @@ impl<'a> Ways<'a> {
         }
     }
 
+    /// Reports a back reference; to group 0 only the first one.
     fn report_useless(&mut self, span: Span, group: usize) -> Result<(), AllocError> {
+        if group == 0 {
+            return self.report_zero(span);
+        }
         let group = self.names.group(group);
         self.walk
             .report(span, Problem::UselessBackreference { group })
+    }
+
+    /// Reports a back reference to group 0, if it is the first one.
+    fn report_zero(&mut self, span: Span) -> Result<(), AllocError> {
+        if self.has_zero {
+            return Ok(());
+        }
+        self.has_zero = true;
+        self.walk.report(span, Problem::GroupZero)
     }
 
     /// Leaves the outermost loop: what has not opened in it is not matched by an earlier repetition.

@@ -1,8 +1,12 @@
 //! The rules that look at a node, or at the branches of one.
-use crate::branches::{Earlier, Situation, has_count_twin, is_word_list};
+use crate::branches::{
+    Earlier, Following, Situation, has_count_twin, is_word_list, only_character,
+};
 use crate::classes::is_single_character_class;
+use crate::empty::is_useless_look_around;
 use crate::fingerprint::Fingerprint;
-use crate::quantifiers::quantifier_rule;
+use crate::neighbours::{Neighbour, beside, is_variable, never_holds};
+use crate::quantifiers::{Surroundings, quantifier_rule};
 use crate::targets::{
     is_numbered_reference, is_unresolved_call, missing_begin_group, missing_condition_group,
     missing_group,
@@ -13,6 +17,7 @@ use fancy_syntax::expr::{Expr, LookAround, Shape, Wrap};
 use fancy_syntax::span::Span;
 use fancy_syntax::spanned::SpannedNode;
 use lint_rules::problem::{Problem, Total};
+use lint_rules::rule::Rule;
 use patterns_text::excerpt::{Label, Related};
 use std::alloc::{AllocError, Global};
 
@@ -36,12 +41,31 @@ pub(crate) struct PatternInfo<'a> {
 /// What is known of a node from what is around it.
 #[derive(Clone, Copy)]
 pub(crate) struct Around {
-    /// Whether nothing follows it in the pattern, or in a group that is left at its first match.
-    pub(crate) is_at_end: bool,
+    pub(crate) following: Following,
     /// Whether the pattern consists of it, but for groups around it.
     pub(crate) is_whole: bool,
     /// Whether it is a branch beside one that differs from it in the count alone.
     pub(crate) has_count_twin: bool,
+    /// Whether it is all of an atomic group.
+    pub(crate) is_atomic: bool,
+    /// What is before and after it, if it is a piece of a concatenation.
+    pub(crate) beside: (Neighbour, Neighbour),
+    /// The character that is the next piece.
+    pub(crate) next: Option<char>,
+    /// If it is all of a loop, the character that follows the loop.
+    pub(crate) delimiter: Option<char>,
+}
+
+impl Around {
+    /// What the rules on quantifiers know of it.
+    fn surroundings(self, about: PatternInfo<'_>) -> Surroundings {
+        Surroundings {
+            has_calls: about.has_calls,
+            has_count_twin: self.has_count_twin,
+            is_atomic: self.is_atomic,
+            is_at_end: self.following == Following::Nothing,
+        }
+    }
 }
 
 /// What is wrong with the reference that is the node.
@@ -69,54 +93,67 @@ fn reference_problem(tree: &Expr, span: Span, about: PatternInfo<'_>) -> Option<
 
 /// What is wrong with the node itself.
 fn node_problem(
-    tree: &Expr,
-    span: Span,
+    node: SpannedNode<'_>,
     about: PatternInfo<'_>,
-    has_count_twin: bool,
+    around: Around,
 ) -> Option<Problem<'static>> {
+    let (tree, span) = (node.expr(), node.span());
     let before = about.pattern.get(..span.start).unwrap_or("");
-    if is_single_character_class(tree, before) {
-        return Some(Problem::SingleCharacterClass);
+    let text = span.text(about.pattern).unwrap_or("");
+    if is_single_character_class(tree, text, before) {
+        return Some(Problem::Plain(Rule::SingleCharacterClass));
+    }
+    if is_useless_look_around(tree) {
+        return Some(Problem::Plain(Rule::UselessLookAround));
+    }
+    let (left, right) = around.beside;
+    if never_holds(tree, left, right) && !is_variable(text, right) {
+        return Some(Problem::Plain(Rule::ImpossibleAssertion));
     }
     if let Some(problem) = reference_problem(tree, span, about) {
         return Some(problem);
     }
-    let rule = quantifier_rule(tree, about.has_calls, has_count_twin)?;
+    let rule = quantifier_rule(tree, around.surroundings(about))?;
     Some(Problem::Plain(rule))
 }
 
-/// Whether nothing follows the child of this index in the pattern, or in a group that is left at its first match, where
-/// `is_at_end` says so of the node itself.
-fn is_child_at_end(tree: &Expr, index: usize, is_at_end: bool) -> bool {
+/// What follows the child of this index, where this follows the node itself.
+fn after_child(tree: &Expr, index: usize, following: Following) -> Following {
     match tree.shape() {
-        Shape::Concat(pieces) => is_at_end && index.saturating_add(1) == pieces.len(),
-        Shape::Alt(_) => is_at_end,
-        Shape::Around(wrap, _) => is_around_end(wrap, is_at_end),
-        Shape::Conditional { .. } => is_at_end && index > 0,
-        Shape::Expression { .. } | Shape::Leaf => false,
+        Shape::Concat(pieces) => following.of_piece(pieces, index),
+        Shape::Alt(_) => following,
+        Shape::Around(wrap, _) => after_inside(wrap, following),
+        Shape::Conditional { .. } => following.only_if(index > 0),
+        Shape::Expression { .. } | Shape::Leaf => Following::More,
     }
 }
 
 /// The same, of the child that this is around.
-fn is_around_end(wrap: Wrap, is_at_end: bool) -> bool {
+fn after_inside(wrap: Wrap, following: Following) -> Following {
     match wrap {
-        Wrap::Group => is_at_end,
-        Wrap::AtomicGroup => true,
-        Wrap::LookAround(LookAround::LookAhead | LookAround::LookAheadNeg) => true,
-        Wrap::LookAround(LookAround::LookBehind | LookAround::LookBehindNeg) => false,
-        Wrap::Repeat { lo, .. } => is_at_end && lo <= 1,
-        Wrap::DefineGroup | Wrap::Repeater | Wrap::Stopper => false,
+        Wrap::Group => following,
+        Wrap::AtomicGroup => Following::Nothing,
+        Wrap::LookAround(LookAround::LookAhead | LookAround::LookAheadNeg) => Following::Nothing,
+        Wrap::LookAround(LookAround::LookBehind | LookAround::LookBehindNeg) => Following::More,
+        Wrap::Repeat { lo, .. } => following.only_if(lo <= 1),
+        Wrap::DefineGroup | Wrap::Repeater | Wrap::Stopper => Following::More,
     }
 }
+
+/// How many branches of an alternation are reported that an earlier one leaves nothing to match.
+const MAX_UNREACHABLE: usize = 8;
 
 /// The branches of an alternation, and those before the next one; no branches of another node.
 #[derive(Drop)]
 struct AltBranches<'b> {
     all: &'b [Expr],
     earlier: Earlier<'b>,
-    is_at_end: bool,
+    following: Following,
     may_be_extended: bool,
     has_calls: bool,
+    delimiter: Option<char>,
+    /// How many are reported that an earlier one leaves nothing to match.
+    unreachable: usize,
 }
 
 impl<'b> AltBranches<'b> {
@@ -133,10 +170,21 @@ impl<'b> AltBranches<'b> {
         AltBranches {
             all,
             earlier: Earlier::none(about.alloc, about.pattern),
-            is_at_end: around.is_at_end,
+            following: around.following,
             may_be_extended: around.is_whole && !about.is_complete && is_word_list(all),
             has_calls: about.has_calls,
+            delimiter: around.delimiter,
+            unreachable: 0,
         }
+    }
+
+    /// Whether it is reported: of branches that an earlier one leaves nothing to match only the first ones.
+    fn is_reported(&mut self, problem: Problem<'_>) -> bool {
+        if problem.rule() != Rule::UnreachableBranch {
+            return true;
+        }
+        self.unreachable = self.unreachable.saturating_add(1);
+        self.unreachable <= MAX_UNREACHABLE
     }
 
     /// The branch that the problem names.
@@ -160,9 +208,10 @@ impl<'b> AltBranches<'b> {
         }
         let situation = Situation {
             is_last: i.saturating_add(1) == self.all.len(),
-            is_at_end: self.is_at_end,
+            following: self.following,
             may_be_extended: self.may_be_extended,
             has_calls: self.has_calls,
+            delimiter: self.delimiter,
         };
         let before = self.all.get(..i).unwrap_or(&[]);
         let whole = Fingerprint::of(branch.expr());
@@ -170,7 +219,10 @@ impl<'b> AltBranches<'b> {
             .earlier
             .problem(before, branch, whole, situation, known)?;
         self.earlier.add(branch, whole)?;
-        Ok(problem)
+        match problem {
+            Some(found) if self.is_reported(found) => Ok(Some(found)),
+            _ => Ok(None),
+        }
     }
 }
 
@@ -179,20 +231,59 @@ fn look_at<'a>(
     node: SpannedNode<'_>,
     walk: &mut Walk<'a>,
     about: PatternInfo<'_>,
-    has_count_twin: bool,
+    around: Around,
 ) -> Result<(), AllocError> {
-    if let Some(problem) = node_problem(node.expr(), node.span(), about, has_count_twin) {
+    if let Some(problem) = node_problem(node, about, around) {
         walk.report(node.span(), problem)?;
     }
     Ok(())
 }
 
+/// The pieces of a concatenation; none of another node.
+fn pieces_of(tree: &Expr) -> &[Expr] {
+    match tree {
+        Expr::Concat(pieces) => pieces,
+        _ => &[],
+    }
+}
+
+/// The character that the piece of this index is.
+fn character_at(pieces: &[Expr], index: usize) -> Option<char> {
+    match pieces.get(index)? {
+        Expr::Literal { val, .. } => only_character(val.as_str()),
+        _ => None,
+    }
+}
+
+/// The character after the child of this index; after all of a group that after the group.
+fn next_to_child(tree: &Expr, index: usize, around: Around) -> Option<char> {
+    match tree {
+        Expr::Concat(pieces) => character_at(pieces, index.saturating_add(1)),
+        Expr::Group(_) => around.next,
+        _ => None,
+    }
+}
+
+/// The character that follows the loop that the child of the tree is all of.
+fn delimiter_of_child(tree: &Expr, around: Around) -> Option<char> {
+    match tree {
+        Expr::Repeat { hi, .. } if *hi > 1 => around.next,
+        Expr::Group(_) => around.delimiter,
+        _ => None,
+    }
+}
+
 /// What is known of the child of this index.
 fn around_child(tree: &Expr, branches: &[Expr], index: usize, around: Around) -> Around {
+    let pieces = pieces_of(tree);
     Around {
-        is_at_end: is_child_at_end(tree, index, around.is_at_end),
+        following: after_child(tree, index, around.following),
         is_whole: around.is_whole && matches!(tree, Expr::Group(_)),
         has_count_twin: has_count_twin(branches, index),
+        is_atomic: matches!(tree, Expr::AtomicGroup(_)),
+        beside: beside(pieces, index),
+        next: next_to_child(tree, index, around),
+        delimiter: delimiter_of_child(tree, around),
     }
 }
 
@@ -204,7 +295,7 @@ pub(crate) fn scan<'a>(
     around: Around,
     known: &mut KnownClasses,
 ) -> Result<(), AllocError> {
-    look_at(node, walk, about, around.has_count_twin)?;
+    look_at(node, walk, about, around)?;
     let mut branches = AltBranches::of(node.expr(), about, around);
     let mut index = 0usize;
     for child in node.children() {

@@ -1,5 +1,4 @@
 //! The changes of the patterns of a file.
-use crate::job::Command;
 use crate::outcome::Outcome;
 use crate::rewriting::PatternForm;
 use pattern_files::entry::Entry;
@@ -80,9 +79,9 @@ pub(crate) struct Left {
 #[derive(Drop)]
 pub(crate) struct Changes {
     /// In the file itself.
-    pub(crate) parts: Vec<Replacement>,
+    parts: Vec<Replacement>,
     /// In sources.
-    pub(crate) sources: Vec<SourceChange>,
+    sources: Vec<SourceChange>,
     pub(crate) kept: Kept,
     /// Where the next patterns are with the changes.
     shift: Shift,
@@ -150,6 +149,11 @@ impl Changes {
         }
     }
 
+    /// Takes those in the file itself.
+    pub(crate) fn take_parts(&mut self, alloc: Global) -> Vec<Replacement> {
+        mem::replace(&mut self.parts, Vec::new(alloc))
+    }
+
     /// Takes the changes in sources.
     pub(crate) fn take_sources(&mut self, alloc: Global) -> Vec<SourceChange> {
         mem::replace(&mut self.sources, Vec::new(alloc))
@@ -172,22 +176,17 @@ impl Changes {
     }
 }
 
-/// Whether the command writes canonical texts, which have the syntax of fancy-regex.
-fn is_canonical(command: Command) -> bool {
-    matches!(command, Command::Format(PatternForm::Canonical(_)))
-}
-
-/// How a source spells the pattern of a record, if its record says that and the command's texts have the syntax of the source's
-/// engine.
+/// How a source spells the pattern of a record, if its record says that, and texts of this form have the syntax of the source's
+/// engine: canonical ones have that of fancy-regex.
 fn spelling_of(
     alloc: Global,
     record: &Record<'_>,
-    command: Command,
+    form: PatternForm,
 ) -> Result<Result<Spelling, Unwritten>, AllocError> {
     let Some(spelling) = &record.spelling else {
         return Ok(Err(Unwritten::UnknownSpelling));
     };
-    if is_canonical(command) && spelling.syntax == SourceSyntax::Python {
+    if matches!(form, PatternForm::Canonical(_)) && spelling.syntax == SourceSyntax::Python {
         return Ok(Err(Unwritten::OtherEngine));
     }
     Ok(Ok(Spelling {
@@ -201,10 +200,10 @@ fn moved(
     alloc: Global,
     entry: Entry<'_>,
     record: &Record<'_>,
-    command: Command,
+    form: PatternForm,
     text: &str,
 ) -> Result<Result<MovedPattern, Unwritten>, AllocError> {
-    let spelling = match spelling_of(alloc, record, command)? {
+    let spelling = match spelling_of(alloc, record, form)? {
         Ok(spelling) => spelling,
         Err(reason) => return Ok(Err(reason)),
     };
@@ -230,18 +229,18 @@ fn moved(
 pub(crate) fn change_of(
     alloc: Global,
     entry: Entry<'_>,
-    command: Command,
+    form: PatternForm,
     text: &str,
 ) -> Result<Result<PatternChange, Unwritten>, AllocError> {
     if let Some(record) = entry.record {
-        return Ok(moved(alloc, entry, record, command, text)?.map(PatternChange::InSource));
+        return Ok(moved(alloc, entry, record, form, text)?.map(PatternChange::InSource));
     }
-    let form = match entry.spot {
+    let spelled_in = match entry.spot {
         // A text that may not have several lines was left out before.
         Spot::Line(_) => SpelledIn::Lines,
         Spot::Path { .. } | Spot::Value { .. } | Spot::Source(_) => SpelledIn::Json,
     };
-    match spelled(alloc, form, entry.contents, entry.pattern, text)? {
+    match spelled(alloc, spelled_in, entry.contents, entry.pattern, text)? {
         Some(text) => Ok(Ok(PatternChange::InFile(Replacement {
             span: entry.span,
             text,

@@ -1,5 +1,4 @@
 //! What a run is to do.
-use crate::rewriting::PatternForm;
 use pattern_reports::format::ReportFormat;
 use pattern_reports::streams::Stream;
 use patterns_config::choices::Choices;
@@ -14,8 +13,8 @@ pub enum Command {
     Groups { has_classes: bool },
     /// Likely mistakes in it are reported.
     Lint,
-    /// It is brought into this form.
-    Format(PatternForm),
+    /// It is formatted.
+    Format,
 }
 
 /// What becomes of patterns that `lint` fixes or `format` changes.
@@ -25,9 +24,9 @@ pub enum Output {
     Reports,
     /// All patterns are written to standard output.
     Patterns,
-    /// They are shown, and each is a failure.
+    /// It is shown where they would change first, and each is a failure.
     Check,
-    /// They are shown.
+    /// The changes are shown: of those in files as a patch.
     Diff,
     /// They are changed in their files. Standard input and arguments, if there are some, are written to standard output with
     /// theirs.
@@ -54,12 +53,12 @@ pub struct Job<'a> {
 }
 
 impl Job<'_> {
-    /// Where errors and likely mistakes are written as text: not among patterns that are written.
+    /// Where errors and likely mistakes are written as text: not among patterns or changes that are written.
     pub(crate) fn stream(self) -> Stream {
         match (self.command, self.output) {
-            (_, Output::Files { has_output: true }) => Stream::Err,
+            (_, Output::Files { has_output: true } | Output::Diff) => Stream::Err,
             (Command::Check | Command::Lint, _) => Stream::Out,
-            (Command::Groups { .. } | Command::Format(_), _) => Stream::Err,
+            (Command::Groups { .. } | Command::Format, _) => Stream::Err,
         }
     }
 

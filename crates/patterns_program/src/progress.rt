@@ -77,6 +77,8 @@ pub(crate) struct Screen<'a, S, O, E> {
     pub(crate) out: Output<'a, O>,
     pub(crate) err: Output<'a, E>,
     system: &'a S,
+    /// When the run began, if the line may be shown.
+    begin: Option<Instant>,
     /// When the line is shown next: never, if none.
     due: Option<Instant>,
     bytes_in_step: usize,
@@ -93,6 +95,7 @@ impl<'a, S: System, O: io::Write, E: io::Write> Screen<'a, S, O, E> {
             out: Output::over(out),
             err: Output::over(err),
             system,
+            begin,
             due: begin.and_then(first_due),
             bytes_in_step: 0,
         }
@@ -111,7 +114,11 @@ impl<'a, S: System, O: io::Write, E: io::Write> Screen<'a, S, O, E> {
             self.out.stream.flush()?;
             self.out.has_line = self.system.terminals().out;
             self.err.has_line = true;
-            let text = ProgressText(tally);
+            let elapsed = self
+                .begin
+                .and_then(|begin| now.checked_duration_since(begin))
+                .unwrap_or(Duration::ZERO);
+            let text = ProgressText { tally, elapsed };
             write!(self.err.stream, "\x1b[?7l\r{text}\x1b[K\x1b[?7h")?;
             self.err.stream.flush()?;
         }

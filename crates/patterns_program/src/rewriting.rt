@@ -1,9 +1,13 @@
 //! What becomes of a pattern.
-ghost use Rattle.std.specs.Prelude.{◌≡◌, Ok, IfOk};
+ghost use Rattle.std.specs.Prelude.{◌≡◌, Ok, IfOk, if◌then◌else◌};
 ghost use Rattle.fancy_lex.specs.Flags.{flags_of};
 ghost use Rattle.pattern_format.specs.Formatted.{IsFormatted};
+ghost use Rattle.pattern_format.specs.declared.style.Style.{Style};
+ghost use Rattle.patterns_config.specs.declared.choices.FormatStyle.{FormatStyle};
 ghost use Rattle.patterns_program.specs.Rewriting.{IfChanged};
+ghost use Rattle.patterns_program.specs.declared.canonical.Comments.{Comments};
 ghost use Rattle.patterns_program.specs.declared.outcome.Outcome.{Outcome};
+ghost use Rattle.patterns_program.specs.declared.rewriting.PatternForm.{PatternForm};
 ghost use Rattle.patterns_program.specs.declared.rewriting.Rewriting.TheVariants.{Stays};
 ghost use Rattle.patterns_text.specs.Subject.{IsAccepted};
 
@@ -16,6 +20,8 @@ use pattern_format::format::format_pattern;
 use pattern_format::style::Style;
 use pattern_reports::reporter::Reporter;
 use pattern_reports::reports::Reports;
+use patterns_config::choices::FormatStyle;
+use patterns_config::file_settings::FormatSettings;
 use patterns_text::error::RunError;
 use patterns_text::subject::{Refusal, Subject};
 use std::alloc::AllocError;
@@ -25,11 +31,39 @@ const NOT_FORMATTED: &str = "the pattern cannot be formatted without another cha
 
 /// The form that `format` writes patterns in.
 #[derive(Clone, Copy, PartialEq, Eq)]
-pub enum PatternForm {
+pub(crate) enum PatternForm {
     /// As they are written, and what has one right form in that form.
     Written(Style),
     /// As the texts of their trees.
     Canonical(Comments),
+}
+
+impl PatternForm {
+    /// That of patterns for which nothing is chosen.
+    pub(crate) const NONE: PatternForm = PatternForm::Written(Style::Kept);
+}
+
+/// The form of patterns with these settings. Without `has_lines` each is in one line, and stays in it.
+pub(crate) fn form_of(settings: FormatSettings, has_lines: bool) -> PatternForm
+    ensures kept { settings.style ≡ FormatStyle.Default → result ≡ PatternForm.Written Style.Kept }
+    ensures verbose { settings.style ≡ FormatStyle.Verbose → result ≡
+        PatternForm.Written (if has_lines then Style.Verbose settings.width else Style.Kept) }
+    ensures compact { settings.style ≡ FormatStyle.Compact → result ≡ PatternForm.Written Style.Compact }
+    ensures canonical { settings.style ≡ FormatStyle.Canonical → result ≡
+        PatternForm.Canonical (if settings.drops_comments then Comments.Drop else Comments.Keep) }
+{
+    let FormatSettings {
+        style,
+        width,
+        drops_comments,
+    } = settings;
+    match style {
+        FormatStyle::Verbose if has_lines => PatternForm::Written(Style::Verbose { width }),
+        FormatStyle::Default | FormatStyle::Verbose => PatternForm::Written(Style::Kept),
+        FormatStyle::Compact => PatternForm::Written(Style::Compact),
+        FormatStyle::Canonical if drops_comments => PatternForm::Canonical(Comments::Drop),
+        FormatStyle::Canonical => PatternForm::Canonical(Comments::Keep),
+    }
 }
 
 /// What becomes of a pattern.

@@ -10,22 +10,27 @@ use crate::changes::{Kept, Left};
 use crate::job::{Command, Job, Output};
 use crate::outcome::Outcome;
 use crate::progress::{STEP, Screen};
+use crate::rewriting::form_of;
 use crate::tally::Counted;
 use crate::work::Work;
 use pattern_files::entry::{Entry, Unread, Visitor};
 use pattern_files::form::{FileFormat, NamedFormat};
-use pattern_files::lines::lines_in;
+use pattern_files::lines::{Ending, lines_in};
+use pattern_files::patch::{PatchText, patch_of};
 use pattern_files::sources::{ReplaceError, STANDARD_INPUT, System};
 use pattern_files::values::keys::{Keys, UsedKeys};
 use pattern_files::walk::{FileShape, visit};
 use patterns_config::choices::Choices;
-use patterns_config::file_settings::{flags_with, is_form_chosen, keys_with, levels_with};
+use patterns_config::file_settings::{
+    flags_with, format_with, is_form_chosen, keys_with, levels_with,
+};
 use patterns_config::plan::{Plan, PlanRequest, PlannedFile};
 use patterns_text::error::{RunError, give_up};
+use patterns_text::paint::Paint;
 use patterns_text::position::Spot;
 use patterns_text::shown::Shown;
 use patterns_text::subject::ARGUMENT;
-use source_literals::replaced::replaced;
+use source_literals::replaced::{Replacement, replaced};
 use std::alloc::{AllocError, Global};
 use std::io;
 use std::io::{BufRead, ErrorKind, Write};
@@ -50,6 +55,8 @@ pub(crate) struct FileRun<'a, 'p, S, O, E> {
     outcome: Outcome,
     /// Whether what is to be written is held back until the changes of the file are made.
     is_held: bool,
+    /// How many bytes the file has that is read, if it is read whole.
+    size: Option<usize>,
 }
 
 impl<S: System, O: Write, E: Write> Visitor for FileRun<'_, '_, S, O, E> {
@@ -65,6 +72,9 @@ impl<S: System, O: Write, E: Write> Visitor for FileRun<'_, '_, S, O, E> {
         self.outcome = self.outcome.and(found);
         self.put_unless_held()?;
         self.work.tally.add(found);
+        if let Some(size) = self.size {
+            self.work.tally.read_to(size, entry.span.end);
+        }
         let bytes = entry.pattern.len().saturating_add(1);
         self.screen.go_on(bytes, &self.work.tally)?;
         Ok(())
@@ -169,24 +179,69 @@ impl<'a, S: System, O: Write, E: Write> FileRun<'a, '_, S, O, E> {
         Ok(false)
     }
 
-    /// Makes the changes of the patterns of a file in it, and returns whether that can be done; if not, it is reported. Standard
-    /// input is written to the output instead. A file without changes is not written.
-    fn change_file(&mut self, file: &str, bytes: &[u8]) -> Result<bool, RunError> {
-        let Output::Files { has_output } = self.work.job.output else {
-            return Ok(true);
+    /// Says how many patterns of a file were changed.
+    pub(crate) fn write_written(&mut self, file: &str, count: usize) -> io::Result<()> {
+        let job = self.work.job;
+        if job.is_quiet {
+            return Ok(());
+        }
+        let done = match job.command {
+            Command::Format => "formatted",
+            Command::Check | Command::Groups { .. } | Command::Lint => "fixed",
         };
+        let (file, patterns) = (Shown(file), Counted(count as u64, "pattern"));
+        writeln!(self.screen.err, "{file}: {patterns} {done}")
+    }
+
+    /// Whom a patch is for: people, if they see it on a terminal or it has colours.
+    fn patch_text(&self) -> PatchText {
+        match self.work.job.paints.out {
+            Paint::Plain if !self.sources.terminals().out => PatchText::Exact,
+            paint => PatchText::Shown(paint),
+        }
+    }
+
+    /// Writes what is replaced in a file with these bytes as a patch.
+    pub(crate) fn write_patch(
+        &mut self,
+        file: &str,
+        bytes: &[u8],
+        parts: &[Replacement],
+    ) -> Result<(), RunError> {
+        let patch = patch_of(self.work.alloc, self.patch_text(), file, bytes, parts)?;
+        self.screen.out.write_all(&patch)?;
+        Ok(())
+    }
+
+    /// Makes the changes of the patterns of a file in it, or shows them, and returns whether that can be done; if not, it is
+    /// reported. Standard input is written to the output instead. A file without changes is not written.
+    fn change_file(&mut self, file: &str, bytes: &[u8]) -> Result<bool, RunError> {
+        let alloc = self.work.alloc;
+        let parts = self.work.changes.take_parts(alloc);
         let is_input = file == STANDARD_INPUT;
-        if self.work.changes.parts.is_empty() && !(is_input && has_output) {
+        let has_output = match self.work.job.output {
+            Output::Files { has_output } => has_output && is_input,
+            Output::Diff if !is_input => {
+                self.write_patch(file, bytes, &parts)?;
+                return Ok(true);
+            }
+            Output::Reports | Output::Patterns | Output::Check | Output::Diff => return Ok(true),
+        };
+        if parts.is_empty() && !has_output {
             return Ok(true);
         }
-        let Some(new) = replaced(self.work.alloc, bytes, &self.work.changes.parts)? else {
+        let Some(new) = replaced(alloc, bytes, &parts)? else {
             return Ok(false);
         };
         if is_input {
             self.screen.out.write_all(&new)?;
             return Ok(true);
         }
-        self.replace(file, bytes, &new)
+        if !self.replace(file, bytes, &new)? {
+            return Ok(false);
+        }
+        self.write_written(file, parts.len())?;
+        Ok(true)
     }
 
     /// Does the work on each pattern of a file that has these bytes, and makes the changes. Where they cannot be made the work
@@ -227,8 +282,10 @@ impl<'a, S: System, O: Write, E: Write> FileRun<'a, '_, S, O, E> {
             return self.write_unread(file, error);
         }
         self.is_held = true;
+        self.size = Some(bytes.len());
         let outcome = self.pass_and_change(file, &bytes)?;
         self.is_held = false;
+        self.size = None;
         self.put()?;
         Ok(outcome)
     }
@@ -257,6 +314,15 @@ impl<'a, S: System, O: Write, E: Write> FileRun<'a, '_, S, O, E> {
         Ok(())
     }
 
+    /// Whether the patterns of the file that is read may have several lines.
+    fn has_several_lines(&self) -> bool {
+        match self.work.job.choices.form {
+            FileFormat::Records(Ending::Null) | FileFormat::Values(_) => true,
+            FileFormat::Records(Ending::Line) => self.configured.is_some(),
+            FileFormat::Extracted => false,
+        }
+    }
+
     /// Begins a file of the plan, or the patterns that are arguments, with what the arguments choose.
     fn begin(&mut self, choices: Choices<'a>, file: &PlannedFile) -> Result<(), AllocError>
         ensures job { self.new.work.job ≡ self.old.work.job }
@@ -265,8 +331,11 @@ impl<'a, S: System, O: Write, E: Write> FileRun<'a, '_, S, O, E> {
         let settings = self.plan.settings(self.work.alloc, file)?;
         self.configured = keys_with(choices, &settings);
         self.is_form_chosen = is_form_chosen(choices, &settings);
+        let has_lines = !self.work.has_file || self.has_several_lines();
         let flags = flags_with(choices, &settings);
-        self.work.begin(flags, levels_with(choices, &settings));
+        let form = form_of(format_with(choices, &settings), has_lines);
+        self.work
+            .begin(flags, levels_with(choices, &settings), form);
         Ok(())
     }
 
@@ -298,10 +367,10 @@ impl<'a, S: System, O: Write, E: Write> FileRun<'a, '_, S, O, E> {
             has_form: true,
             ..job.choices
         };
+        self.work.has_file = false;
         self.begin(choices, arguments)?;
         let end = [job.choices.form.ending().byte()];
         self.outcome = Outcome::Good;
-        self.work.has_file = false;
         self.process_lines(job.patterns, &end)?;
         self.work.has_file = true;
         Ok(self.outcome)
@@ -396,7 +465,7 @@ impl<'a, S: System, O: Write, E: Write> FileRun<'a, '_, S, O, E> {
         };
         outcome = outcome.and(self.process_arguments()?);
         for (done, file) in plan.files.iter().enumerate() {
-            self.work.tally.done = done;
+            self.work.tally.begin_file(done);
             self.screen.go_on(STEP, &self.work.tally)?;
             outcome = outcome.and(self.process_planned(file)?);
         }
@@ -436,6 +505,7 @@ fn run_plan<S: System, O: Write, E: Write>(
         used_keys: UsedKeys::new(alloc, job.choices.form.named_keys()),
         outcome: Outcome::Good,
         is_held: false,
+        size: None,
     };
     match run.process_files() {
         Ok(outcome) => outcome.status(),

@@ -38,7 +38,7 @@ impl<S: System, O: Write, E: Write> FileRun<'_, '_, S, O, E> {
         Ok(changes.iter().any(|change| change.is_read_back))
     }
 
-    /// Changes the patterns of one source, or sees that it can be changed, and returns whether that is so; if not, it is reported.
+    /// Changes the patterns of one source, or shows the changes, and returns whether that can be done; if not, it is reported.
     fn change_source(
         &mut self,
         file: &str,
@@ -52,13 +52,22 @@ impl<S: System, O: Write, E: Write> FileRun<'_, '_, S, O, E> {
             writeln!(err, "patterns: {}: {CHANGED}", Shown(file))?;
             return Ok(false);
         };
-        if !self.see_unread(changes)? || !self.work.job.writes_files() {
+        if !self.see_unread(changes)? {
             return Ok(true);
         }
-        self.replace(file, &bytes, changed.as_bytes())
+        if !self.work.job.writes_files() {
+            self.write_patch(file, &bytes, &changed.parts)?;
+            return Ok(true);
+        }
+        if !self.replace(file, &bytes, changed.text.as_bytes())? {
+            return Ok(false);
+        }
+        let count = changes.iter().filter(|change| change.is_read_back).count();
+        self.write_written(file, count)?;
+        Ok(true)
     }
 
-    /// Changes the patterns in their sources, or sees that they can be changed. Returns the patterns that stay, if some do: those of
+    /// Changes the patterns in their sources, or shows the changes. Returns the patterns that stay, if some do: those of
     /// a source that cannot be changed, and those that would not be read back.
     pub(crate) fn change_sources(&mut self) -> Result<Option<Left>, RunError> {
         let mut outcome = Outcome::Good;

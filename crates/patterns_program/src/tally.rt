@@ -2,6 +2,7 @@
 use crate::outcome::Outcome;
 use lint_rules::chosen::Level;
 use std::fmt;
+use std::time::Duration;
 
 /// How many files and patterns a run has met, and with which outcomes.
 #[derive(Clone, Copy)]
@@ -9,6 +10,9 @@ pub(crate) struct Tally {
     /// All files, and those that are done.
     files: usize,
     pub(crate) done: usize,
+    /// How many bytes the file has that is read, if that is known, and how many of them are done.
+    size: usize,
+    read: usize,
     patterns: u64,
     /// Those that are not as the verb asks.
     failed: u64,
@@ -31,6 +35,8 @@ impl Tally {
         Tally {
             files,
             done: 0,
+            size: 0,
+            read: 0,
             patterns: 0,
             failed: 0,
             changed: 0,
@@ -41,6 +47,32 @@ impl Tally {
             errors: 0,
             warnings: 0,
         }
+    }
+
+    /// Begins a file, of which so many are done.
+    pub(crate) fn begin_file(&mut self, done: usize) {
+        self.done = done;
+        self.size = 0;
+        self.read = 0;
+    }
+
+    /// Goes on in the file, which has this size, to the offset.
+    pub(crate) fn read_to(&mut self, size: usize, offset: usize) {
+        self.size = size;
+        self.read = offset.min(size);
+    }
+
+    /// How much of the files is done, in percent, as far as that is known.
+    fn percent(&self) -> u64 {
+        let of_file = (self.read as u64)
+            .saturating_mul(100)
+            .checked_div(self.size as u64)
+            .unwrap_or(0);
+        (self.done as u64)
+            .saturating_mul(100)
+            .saturating_add(of_file)
+            .checked_div(self.files as u64)
+            .unwrap_or(0)
     }
 
     /// Counts a pattern; a line that holds no text is none.
@@ -137,16 +169,28 @@ impl fmt::Display for Tally {
     }
 }
 
-/// How far a run is.
+/// How far a run is, which has taken so long.
 #[derive(Clone, Copy)]
-pub(crate) struct ProgressText<'a>(pub(crate) &'a Tally);
+pub(crate) struct ProgressText<'a> {
+    pub(crate) tally: &'a Tally,
+    pub(crate) elapsed: Duration,
+}
 
 impl fmt::Display for ProgressText<'_> {
     fn fmt<W: fmt::Write>(&self, f: &mut fmt::Formatter<W>) -> fmt::Result {
-        let ProgressText(tally) = *self;
+        let ProgressText { tally, elapsed } = *self;
         let done = Thousands(tally.done as u64);
         let files = Counted(tally.files as u64, "file");
         let patterns = Counted(tally.patterns, "pattern");
-        write!(f, "{done} of {files}, {patterns}")
+        write!(f, "{done} of {files}, {patterns}")?;
+        let percent = tally.percent();
+        let left = elapsed
+            .as_secs()
+            .saturating_mul(100u64.saturating_sub(percent))
+            .checked_div(percent);
+        match left {
+            Some(left) => write!(f, ", {percent}%, about {left} s left"),
+            None => Ok(()),
+        }
     }
 }

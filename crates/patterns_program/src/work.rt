@@ -6,18 +6,19 @@ ghost use Rattle.patterns_program.specs.declared.job.Command.{Command};
 ghost use Rattle.patterns_program.specs.declared.outcome.Outcome.{Outcome};
 ghost use Rattle.patterns_text.specs.Subject.{IsAccepted};
 
-use crate::change::{write_change, write_ended};
+use crate::change::{write_change, write_difference, write_ended};
 use crate::changes::{Changes, Kept, PatternChange, Unwritten, change_of};
 use crate::check::check;
 use crate::groups::list_groups;
 use crate::job::{Command, Job, Output};
 use crate::lint::{LintRequest, fixed_further, lint};
 use crate::outcome::Outcome;
-use crate::rewriting::{Rewriting, formatted};
+use crate::rewriting::{PatternForm, Rewriting, formatted};
 use crate::tally::Tally;
 use lint_rules::chosen::Chosen;
 use pattern_files::entry::Entry;
 use pattern_files::lines::BOM;
+use pattern_files::sources::STANDARD_INPUT;
 use pattern_files::spelling::{SpelledIn, fits};
 use pattern_reports::reporter::Reporter;
 use pattern_reports::reports::{ReportLog, ReportOptions, Reports};
@@ -59,6 +60,8 @@ pub(crate) struct Work<'a> {
     pub(crate) flags: u32,
     /// The levels of rules for it.
     levels: Chosen,
+    /// The form that `format` brings them into.
+    form: PatternForm,
     /// Whether the patterns are in a file, and not arguments.
     pub(crate) has_file: bool,
     /// The changes of the patterns of the file.
@@ -86,6 +89,7 @@ impl<'a> Work<'a> {
             job,
             flags,
             levels: Chosen::by_default(false),
+            form: PatternForm::NONE,
             has_file: true,
             changes: Changes::none(alloc, Kept::Records(Vec::new(alloc))),
             known: Known::new(alloc, flags),
@@ -98,13 +102,14 @@ impl<'a> Work<'a> {
         }
     }
 
-    /// Begins a file whose patterns are parsed under these flags, with these levels of rules.
-    pub(crate) fn begin(&mut self, flags: u32, levels: Chosen)
+    /// Begins a file whose patterns are parsed under these flags, with these levels of rules, and brought into this form.
+    pub(crate) fn begin(&mut self, flags: u32, levels: Chosen, form: PatternForm)
         ensures job { self.new.job ≡ self.old.job }
         ensures flags { self.new.flags ≡ flags }
     {
         self.flags = flags;
         self.levels = levels;
+        self.form = form;
         self.begin_pass(Kept::Records(Vec::new(self.alloc)));
     }
 
@@ -219,7 +224,7 @@ impl<'a> Work<'a> {
         match self.job.command {
             Command::Check => Ok(Rewriting::Stays(check(subject, &mut reports)?)),
             Command::Groups { .. } => Ok(Rewriting::Stays(list_groups(subject, &mut reports)?)),
-            Command::Format(form) => formatted(subject, form, &mut reports),
+            Command::Format => formatted(subject, self.form, &mut reports),
             Command::Lint => {
                 let request = LintRequest {
                     grammar,
@@ -237,6 +242,15 @@ impl<'a> Work<'a> {
         match self.job.output {
             Output::Diff | Output::Files { .. } => !self.changes.keeps(entry),
             Output::Reports | Output::Patterns | Output::Check => false,
+        }
+    }
+
+    /// The form of texts that replace patterns.
+    fn form(&self) -> PatternForm {
+        if self.job.command == Command::Format {
+            self.form
+        } else {
+            PatternForm::NONE
         }
     }
 
@@ -296,7 +310,7 @@ impl<'a> Work<'a> {
         if !self.has_file {
             return self.write_changed(subject, entry, text.as_str());
         }
-        match change_of(self.alloc, entry, command, text.as_str())? {
+        match change_of(self.alloc, entry, self.form(), text.as_str())? {
             Ok(change) => self.replace(subject, entry, text.as_str(), change),
             Err(reason) => {
                 self.write_unwritten(subject, reason)?;
@@ -333,7 +347,7 @@ impl<'a> Work<'a> {
         ensures job { self.new.job ≡ self.old.job }
         ensures flags { self.new.flags ≡ self.old.flags }
     {
-        self.show(subject, text)?;
+        self.show(subject, entry, text)?;
         if self.writes_all() {
             write_ended(&mut self.shown.out, text, entry.end)?;
         }
@@ -352,7 +366,7 @@ impl<'a> Work<'a> {
         ensures job { self.new.job ≡ self.old.job }
         ensures flags { self.new.flags ≡ self.old.flags }
     {
-        self.show(subject, text)?;
+        self.show(subject, entry, text)?;
         let spot = match &change {
             PatternChange::InFile(_) => subject.at.spot,
             PatternChange::InSource(moved) => Spot::Source(&moved.positions),
@@ -366,20 +380,26 @@ impl<'a> Work<'a> {
         Ok(outcome)
     }
 
-    /// Counts a pattern that becomes the text, and shows the change if it is only shown.
-    fn show(&mut self, subject: Subject<'_>, text: &str) -> Result<(), RunError>
+    /// Whether the change of an entry is a part of a patch: what it is in has a name.
+    fn is_patched(&self, entry: Entry<'_>) -> bool {
+        self.has_file && (entry.record.is_some() || entry.file != STANDARD_INPUT)
+    }
+
+    /// Counts a pattern that becomes the text, and shows the change if it is only shown, and not in a patch.
+    fn show(&mut self, subject: Subject<'_>, entry: Entry<'_>, text: &str) -> Result<(), RunError>
         ensures job { self.new.job ≡ self.old.job }
         ensures flags { self.new.flags ≡ self.old.flags }
     {
-        let tally = &mut self.tally;
         let is_shown = self.job.output == Output::Diff;
+        let is_patched = self.is_patched(entry);
+        let tally = &mut self.tally;
         let count = match self.job.command {
             _ if is_shown => &mut tally.fixable,
-            Command::Format(_) => &mut tally.formatted,
+            Command::Format => &mut tally.formatted,
             Command::Check | Command::Groups { .. } | Command::Lint => &mut tally.fixed,
         };
         *count = count.saturating_add(1);
-        if is_shown {
+        if is_shown && !is_patched {
             write_change(&mut self.shown.out, subject, text)?;
         }
         Ok(())
@@ -433,8 +453,13 @@ impl<'a> Work<'a> {
         if self.job.command == Command::Lint {
             return self.report(subject, entry.grammar);
         }
-        write_change(&mut self.shown.out, subject, text)?;
         self.tally.changed = self.tally.changed.saturating_add(1);
+        match self.job.output {
+            Output::Diff => write_difference(&mut self.reported.err, subject, text)?,
+            Output::Reports | Output::Patterns | Output::Check | Output::Files { .. } => {
+                write_difference(&mut self.shown.out, subject, text)?
+            }
+        }
         Ok(Outcome::Refused)
     }
 

@@ -118,7 +118,7 @@ patterns: broken: connection reset
 ";
 
 /// What is reported of the pattern `a|a` in a file that cannot be written, and why it cannot.
-const LEFT_IN_FULL: &str = "full:1:3: warning: branch that is equal to branch 1 [duplicate-branch]
+const LEFT_IN_FULL: &str = "full:1:3: warning: `a` is branch 1 already [duplicate-branch]
 a|a
 - ^
 branch 1
@@ -130,7 +130,7 @@ const NO_SPACE: &str = "patterns: full: cannot be written: no storage space
 ";
 
 const LEFT_IN_MOVING: &str =
-    "moving:1:3: warning: branch that is equal to branch 1 [duplicate-branch]
+    "moving:1:3: warning: `a` is branch 1 already [duplicate-branch]
 a|a
 - ^
 branch 1

@@ -138,6 +138,15 @@ fn add_literals(
     Ok(pattern.is_empty())
 }
 
+/// A source with changes made in it.
+#[derive(Drop)]
+pub struct ChangedSource {
+    /// The literals that change, in their order, and what is in their place.
+    pub parts: Vec<Replacement>,
+    /// The source with these.
+    pub text: String,
+}
+
 /// The source with what its literals become; those of changes that are not read back stay. None if two of the others have a
 /// part in common.
 fn assembled(
@@ -145,7 +154,7 @@ fn assembled(
     source: &str,
     changes: &[SourceChange],
     literals: &[ChangedLiteral],
-) -> Result<Option<String>, AllocError> {
+) -> Result<Option<ChangedSource>, AllocError> {
     let mut parts = Vec::with_capacity(alloc, literals.len())?;
     for one in literals {
         if changes
@@ -159,7 +168,8 @@ fn assembled(
         }
     }
     let new = replaced(alloc, source.as_bytes(), &parts)?;
-    Ok(new.and_then(|bytes| String::from_utf8(bytes).ok()))
+    let text = new.and_then(|bytes| String::from_utf8(bytes).ok());
+    Ok(text.map(|text| ChangedSource { parts, text }))
 }
 
 /// The offset in the text of the change up to which it is read, if it is read up to `done`, and the literal as the part from
@@ -252,7 +262,7 @@ pub fn changed_source(
     alloc: Global,
     source: &[u8],
     changes: &mut [SourceChange],
-) -> Result<Option<String>, AllocError> {
+) -> Result<Option<ChangedSource>, AllocError> {
     let Ok(source) = str::from_utf8(source) else {
         return Ok(None);
     };
@@ -266,7 +276,7 @@ pub fn changed_source(
         let Some(new) = assembled(alloc, source, changes, &literals)? else {
             return Ok(None);
         };
-        if read_again(alloc, new.as_str(), changes, &literals)? {
+        if read_again(alloc, new.text.as_str(), changes, &literals)? {
             return Ok(Some(new));
         }
     }

@@ -1,4 +1,5 @@
 use Rattle.std.proofs.Common.{◌+◌, ◌<◌, ◌∙◌, ap, sym, set, length, arith}
+use Rattle.std.proofs.lemmas.Bool.{OnTrue_at}
 use Rattle.fancy_grammar.specs.Tree.{levels, children}
 use Rattle.fancy_syntax.specs.View.{view, views}
 use Rattle.fancy_syntax.proofs.Descents.{sweep_start, sweep_first, sweep_next, levels_of_child}
@@ -15,8 +16,8 @@ put_children-loop-child-init t c = record {
       c.requires.bytes_capacity;
 }
 
-pub put_children-put_tree-after-requires : goal.put_children-put_tree-after-requires
-put_children-put_tree-after-requires t c =
+pub put_children-put_child-after-requires : goal.put_children-put_child-after-requires
+put_children-put_child-after-requires t c =
     let among = sweep_first _ c.args.tree.now c.in-Some.child.now _ _ c.loop-child.invariant.sweep
     c.in-Some.ensures.steps in
     let less : levels (view c.in-Some.child.now) < levels (view c.args.tree.now) =
@@ -28,7 +29,7 @@ put_children-put_tree-after-requires t c =
 
 pub put_children-loop-child-preserved : goal.put_children-loop-child-preserved
 put_children-loop-child-preserved t c =
-    let put = c.put_tree-after.ensures in
+    let put = c.put_child-after.ensures in
     record {
       sweep = sweep_next _ c.args.tree.now c.in-Some.child.now _ _ c.loop-child.invariant.sweep c.in-Some.ensures.steps
           (record { here = tt; below = λ d b. tt });
@@ -115,3 +116,13 @@ put_tree-returns-clause-bytes t c =
     c.args.before.text c.put_text.result at_text c.requires.bytes_capacity
     (c.put_text.ensures.put ∙ ap (put_at c.args.bytes.now c.args.before.text) c.carried-text.ensures)
     c.put_children-after.ensures.bytes
+
+pub put_child-put_leaf-requires : goal.put_child-put_leaf-requires
+put_child-put_leaf-requires t c = record {
+  childless = OnTrue_at c.if-is_leaf_node.true c.is_leaf_node.ensures.childless;
+  nodes_capacity = c.requires.nodes_capacity;
+  bytes_capacity = c.requires.bytes_capacity;
+}
+
+pub put_child-put_tree-requires : goal.put_child-put_tree-requires
+put_child-put_tree-requires t c = (omega arith, (c.requires.nodes_capacity, c.requires.bytes_capacity))

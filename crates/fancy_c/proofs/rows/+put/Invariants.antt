@@ -8,10 +8,13 @@ use Rattle.fancy_c.proofs.RowLemmas.{Putting}
 use Rattle.fancy_c.proofs.rows.+put.Given as goal
 
 abbrev pub decreases-put_tree : goal.decreases-put_tree
-decreases-put_tree l = 2 * levels (view l.tree.now) + 1
+decreases-put_tree l = 3 * levels (view l.tree.now) + 1
 
 abbrev pub decreases-put_children : goal.decreases-put_children
-decreases-put_children l = 2 * levels (view l.tree.now)
+decreases-put_children l = 3 * levels (view l.tree.now)
+
+abbrev pub decreases-put_child : goal.decreases-put_child
+decreases-put_child l = 3 * levels (view l.tree.now) + 2
 
 abbrev pub invariant-put_children-loop-child : goal.invariant-put_children-loop-child
 invariant-put_children-loop-child l = record {

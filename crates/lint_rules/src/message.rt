@@ -1,0 +1,181 @@
+//! The messages of reports, which name the parts of the pattern that they are about.
+use crate::problem::{Problem, Total};
+use crate::rule::Rule;
+use class_meaning::ClassErrorKind;
+use class_rules::class_problem::ClassProblem;
+use patterns_text::shown::Shown;
+use std::fmt;
+
+/// How many bytes of a part a message has at most.
+const MAX_BYTES: usize = 32;
+
+/// A part of a pattern in a message; of a long one the beginning.
+#[derive(Clone, Copy)]
+struct Part<'a>(&'a str);
+
+impl fmt::Display for Part<'_> {
+    fn fmt<W: fmt::Write>(&self, f: &mut fmt::Formatter<W>) -> fmt::Result {
+        if self.0.len() <= MAX_BYTES {
+            return write!(f, "`{}`", Shown(self.0));
+        }
+        let end = self.0.floor_char_boundary(MAX_BYTES);
+        write!(f, "`{}…`", Shown(self.0.get(..end).unwrap_or("")))
+    }
+}
+
+/// The message of a report.
+#[derive(Clone, Copy)]
+pub struct Message<'a> {
+    pub(crate) problem: Problem<'a>,
+    /// The part of the pattern that has the problem.
+    pub(crate) text: &'a str,
+    /// The branch or the group that the message names.
+    pub(crate) related: &'a str,
+}
+
+/// The text without the article that it begins with.
+fn without_article(text: &str) -> &str {
+    text.split_once(' ').map_or(text, |(_, rest)| rest)
+}
+
+/// Whether the look-around with this text is a negative one.
+fn is_negative(text: &str) -> bool {
+    text.starts_with("(?!") || text.starts_with("(?<!")
+}
+
+impl Message<'_> {
+    /// Writes what the rule reports of the part.
+    fn write_plain<W: fmt::Write>(&self, f: &mut fmt::Formatter<W>, rule: Rule) -> fmt::Result {
+        let part = Part(self.text);
+        match rule {
+            Rule::EmptyLoop => write!(f, "{part} repeats what may be empty"),
+            Rule::QuantifiedAssertion => write!(
+                f,
+                "{part} repeats what matches only the empty text"
+            ),
+            Rule::ImpossibleAssertion => {
+                write!(f, "{part} never holds between these characters")
+            }
+            Rule::LazyAtEnd => write!(f, "{part} at the end repeats only its minimum"),
+            Rule::UselessQuantifier => write!(f, "{part} repeats exactly once"),
+            Rule::ZeroQuantifier => write!(f, "{part} repeats zero times"),
+            Rule::SingleCharacterClass => write!(f, "{part} is a class of one character"),
+            Rule::UselessLookAround if is_negative(self.text) => {
+                write!(f, "{part} never matches, since its contents may be empty")
+            }
+            Rule::UselessLookAround => {
+                write!(f, "{part} always matches, since its contents may be empty")
+            }
+            _ => f.write_str(without_article(rule.row().what)),
+        }
+    }
+
+    /// Writes what is wrong with a class or a branch of one character.
+    fn write_class<W: fmt::Write>(
+        &self,
+        f: &mut fmt::Formatter<W>,
+        problem: ClassProblem,
+    ) -> fmt::Result {
+        let part = Part(self.text);
+        match problem {
+            ClassProblem::Invalid(ClassErrorKind::ClassRangeLiteral) => f.write_str(
+                r"fancy-regex refuses a hyphen beside a set, as in `\w-.`: write `\-`",
+            ),
+            ClassProblem::Invalid(kind) => write!(
+                f,
+                "fancy-regex refuses this: {}",
+                kind.message()
+            ),
+            ClassProblem::Empty => write!(f, "{part} contains no character"),
+            ClassProblem::DuplicateCharacters => {
+                write!(f, "{part} is in the rest of the class already")
+            }
+            ClassProblem::SubsumedBranch { other, .. } => {
+                write!(
+                    f,
+                    "{part} is part of {} (branch {other})",
+                    Part(self.related)
+                )
+            }
+            ClassProblem::SuspiciousClass(_) | ClassProblem::SuspiciousRange { .. } => {
+                write!(f, "{problem}")
+            }
+        }
+    }
+
+    /// Writes what is wrong with a branch that an earlier one leaves nothing to match.
+    fn write_unreachable<W: fmt::Write>(
+        &self,
+        f: &mut fmt::Formatter<W>,
+        earlier: usize,
+    ) -> fmt::Result {
+        let (part, first) = (Part(self.text), Part(self.related));
+        if self.related.is_empty() {
+            return write!(f, "the empty branch {earlier} matches before {part}");
+        }
+        write!(f, "{first} (branch {earlier}) matches before {part}")
+    }
+}
+
+impl fmt::Display for Message<'_> {
+    fn fmt<W: fmt::Write>(&self, f: &mut fmt::Formatter<W>) -> fmt::Result {
+        let part = Part(self.text);
+        match self.problem {
+            Problem::Plain(rule) => self.write_plain(f, rule),
+            Problem::MissingGroup { group, total } => {
+                write!(f, "reference to group {group}, but the pattern has {total}")
+            }
+            Problem::MissingConditionGroup { group, total } => {
+                write!(f, "condition on group {group}, but the pattern has {total}")
+            }
+            Problem::MissingBeginGroup { group, total } => {
+                write!(f, "reference to group {group}, but begin has {total}")
+            }
+            Problem::MissingCaptureGroup { key, group, total } => {
+                let key = key.name();
+                write!(f, "number {group} in {key}, but the pattern has {total}")
+            }
+            Problem::UselessBackreference { group } => {
+                write!(
+                    f,
+                    "{part} refers to {group}, which cannot have matched here"
+                )
+            }
+            Problem::GroupZero if self.text.starts_with(r"\0") => {
+                write!(f, "{part} is group 0 here, not NUL")
+            }
+            Problem::GroupZero => write!(f, "{part} is group 0, which cannot have matched here"),
+            Problem::UnresolvedCall => write!(f, "{part} calls no group"),
+            Problem::NumberedReference => {
+                write!(f, "{part} refers by a number, beside groups with a name")
+            }
+            Problem::DuplicateGroupName { group } => {
+                write!(f, "{group}, has the name of an earlier group")
+            }
+            Problem::UnusedCapturingGroup { group } => {
+                write!(f, "group {group} has no name, and nothing refers to it")
+            }
+            Problem::DuplicateBranch { earlier } => {
+                write!(f, "{part} is branch {earlier} already")
+            }
+            Problem::UnreachableBranch { earlier } => self.write_unreachable(f, earlier),
+            Problem::UnusedEscape { earlier } => {
+                let first = Part(self.related);
+                write!(
+                    f,
+                    "{first} (branch {earlier}) matches the backslash of {part}"
+                )
+            }
+            Problem::ExponentialBacktracking { text } => {
+                write!(f, "exponential backtracking on {text}")
+            }
+            Problem::PolynomialBacktracking { degree, text } => {
+                write!(f, "polynomial backtracking of degree {degree} on {text}")
+            }
+            Problem::UselessFlag { letter } => write!(f, "flag {letter} is set already"),
+            Problem::CharactersInEscape { escape } => write!(f, r"{part} is part of `\{escape}`"),
+            Problem::Class(problem) => self.write_class(f, problem),
+            Problem::DialectDifference { difference } => write!(f, "{difference}"),
+        }
+    }
+}
