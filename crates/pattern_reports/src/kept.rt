@@ -98,7 +98,7 @@ fn problem_report(
         span,
         rule: Some(rule),
         code: Some(rule.name()),
-        message: format!(in alloc; "{problem}")?,
+        message: format!(in alloc; "{}", found.message(pattern))?,
         help: Some(format!(in alloc; "{}", found.help(pattern))?),
         related: related_part(alloc, related)?,
         fix: fix_part(alloc, fix)?,

@@ -1,15 +1,14 @@
 //! What a run does with a pattern, for an editor: nothing is written, and one pattern is worked on at a time.
 use crate::changes::{PatternChange, change_of};
-use crate::job::Command;
 use crate::lint::{LintRequest, fixed_further, lint};
-use crate::rewriting::{PatternForm, Rewriting, formatted};
+use crate::rewriting::{PatternForm, Rewriting, form_of, formatted};
 use crate::tally::Tally;
 use lint_rules::chosen::Chosen;
 use pattern_files::entry::Entry;
 use pattern_files::spelling::{SpelledIn, fits};
-use pattern_format::style::Style;
 use pattern_reports::kept::Report;
 use pattern_reports::reports::Reports;
+use patterns_config::file_settings::FormatSettings;
 use patterns_lint::known::Known;
 use patterns_text::error::RunError;
 use patterns_text::position::Location;
@@ -90,14 +89,14 @@ impl EditedPatterns {
         Ok(reports)
     }
 
-    /// What is changed in the file for an entry that becomes the text by the command; None if it stays.
+    /// What is changed in the file for an entry that becomes the text, which has this form; None if it stays.
     fn change(
         &self,
         entry: Entry<'_>,
-        command: Command,
+        form: PatternForm,
         text: &str,
     ) -> Result<Option<Replacement>, AllocError> {
-        match change_of(self.alloc, entry, command, text)? {
+        match change_of(self.alloc, entry, form, text)? {
             Ok(PatternChange::InFile(part)) => Ok(Some(part)),
             Ok(PatternChange::InSource(_)) | Err(_) => Ok(None),
         }
@@ -119,22 +118,22 @@ impl EditedPatterns {
         if !fits(SpelledIn::Line, text, entry.pattern) {
             return Ok(None);
         }
-        Ok(self.change(entry, Command::Lint, text)?)
+        Ok(self.change(entry, PatternForm::NONE, text)?)
     }
 
-    /// What is changed in the file for an entry that is formatted in the style; None if it stays.
+    /// What is changed in the file for an entry that is formatted; None if it stays. Without `has_lines` it is in one line, and
+    /// stays in it.
     pub fn formatted(
         &self,
         entry: Entry<'_>,
-        style: Style,
+        settings: FormatSettings,
+        has_lines: bool,
     ) -> Result<Option<Replacement>, RunError> {
-        let form = PatternForm::Written(style);
+        let form = form_of(settings, has_lines);
         let mut reports = Vec::new(self.alloc);
         let subject = self.subject(entry);
         match formatted(subject, form, &mut Reports::kept(&mut reports))? {
-            Rewriting::Changed(text) => {
-                Ok(self.change(entry, Command::Format(form), text.as_str())?)
-            }
+            Rewriting::Changed(text) => Ok(self.change(entry, form, text.as_str())?),
             Rewriting::Stays(_) => Ok(None),
         }
     }

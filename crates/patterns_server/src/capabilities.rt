@@ -1,14 +1,10 @@
 //! What the server can do, as `initialize` says it, and what the client can.
-use crate::params::{member, text};
+use crate::params::member;
 use crate::tokens::TOKEN_KINDS;
 use editor_documents::position::Encoding;
 use json::{Value, Writer};
-use pattern_format::style::Style;
 use pattern_reports::json_lines::fields::{write_bool, write_number, write_text};
 use std::alloc::AllocError;
-
-/// How many characters a line of a pattern may have that is laid out, if the client does not say it.
-const WIDTH: usize = 80;
 
 /// What positions are counted in: UTF-8 if the client offers it, else UTF-16.
 pub(crate) fn encoding_of(params: Option<&Value<'_>>) -> Encoding {
@@ -22,21 +18,6 @@ pub(crate) fn encoding_of(params: Option<&Value<'_>>) -> Encoding {
         }
     }
     Encoding::Utf16
-}
-
-/// How patterns are formatted: as the options say with which the client begins.
-pub(crate) fn style_of(params: Option<&Value<'_>>) -> Style {
-    match text(params, &["initializationOptions", "style"]) {
-        Some("verbose") => {
-            let width = member(params, &["initializationOptions", "width"]);
-            let width = width
-                .and_then(Value::as_u64)
-                .map_or(WIDTH, |width| width as usize);
-            Style::Verbose { width }
-        }
-        Some("compact") => Style::Compact,
-        Some(_) | None => Style::Kept,
-    }
 }
 
 /// What the encoding is called.

@@ -2,17 +2,17 @@
 use crate::uri::path_of;
 use editor_documents::document::Document;
 use editor_documents::position::Encoding;
-use lint_rules::chosen::Chosen;
 use pattern_files::entry::Visitor;
 use pattern_files::form::{FileFormat, NamedFormat};
 use pattern_files::lines::Ending;
 use pattern_files::sources::{STANDARD_INPUT, System};
 use pattern_files::values::keys::Keys;
 use pattern_files::walk::{FileShape, visit};
-use pattern_format::style::Style;
 use pattern_reports::kept::Report;
 use patterns_config::choices::Choices;
-use patterns_config::file_settings::{flags_with, is_form_chosen, keys_with, levels_with};
+use patterns_config::file_settings::{
+    FileSettings, FormatSettings, flags_with, format_with, is_form_chosen, keys_with, levels_with,
+};
 use patterns_config::plan::{Plan, PlanRequest};
 use patterns_program::edited::EditedPatterns;
 use patterns_text::error::RunError;
@@ -26,8 +26,6 @@ pub(crate) struct Settings<'a> {
     pub(crate) choices: Choices<'a>,
     /// What positions are counted in.
     pub(crate) encoding: Encoding,
-    /// How patterns are formatted.
-    pub(crate) style: Style,
 }
 
 /// A document, and how it has patterns.
@@ -95,14 +93,18 @@ impl DocumentSource {
         self.document.text.as_str()
     }
 
+    /// What its configuration says of it; nothing if that is refused.
+    fn settings(&self, alloc: Global) -> Result<FileSettings<'_>, AllocError> {
+        match self.plan.files.first() {
+            Some(planned) => self.plan.settings(alloc, planned),
+            None => Ok(FileSettings::none(alloc)),
+        }
+    }
+
     /// The flags of its patterns, and the levels of rules.
     fn patterns(&self, given: Settings<'_>) -> Result<EditedPatterns, AllocError> {
         let Settings { alloc, choices, .. } = given;
-        let Some(planned) = self.plan.files.first() else {
-            let levels = Chosen::by_default(false);
-            return Ok(EditedPatterns::new(alloc, choices.flags, levels));
-        };
-        let settings = self.plan.settings(alloc, planned)?;
+        let settings = self.settings(alloc)?;
         let flags = flags_with(choices, &settings);
         Ok(EditedPatterns::new(alloc, flags, levels_with(choices, &settings)))
     }
@@ -110,10 +112,7 @@ impl DocumentSource {
     /// How it has patterns; None if it has none.
     fn form(&self, given: Settings<'_>) -> Result<Option<FileFormat<'_>>, AllocError> {
         let Settings { alloc, choices, .. } = given;
-        let Some(planned) = self.plan.files.first() else {
-            return Ok(form_of(self.document.language.as_str(), self.name.as_str(), false));
-        };
-        let settings = self.plan.settings(alloc, planned)?;
+        let settings = self.settings(alloc)?;
         if let Some(keys) = keys_with(choices, &settings) {
             return Ok(Some(FileFormat::Values(keys)));
         }
@@ -144,13 +143,15 @@ impl DocumentSource {
         visit(given.alloc, shape, self.name.as_str(), &mut reader, visitor)
     }
 
-    /// The style of its patterns: one of several lines is not written to lines.
-    pub(crate) fn style(&self, given: Settings<'_>) -> Result<Style, AllocError> {
-        let form = self.form(given)?;
-        Ok(match (given.style, form) {
-            (Style::Verbose { .. }, Some(FileFormat::Records(_))) => Style::Kept,
-            (style, _) => style,
-        })
+    /// How its patterns are formatted.
+    pub(crate) fn format(&self, given: Settings<'_>) -> Result<FormatSettings, AllocError> {
+        let settings = self.settings(given.alloc)?;
+        Ok(format_with(given.choices, &settings))
+    }
+
+    /// Whether its patterns may have several lines.
+    pub(crate) fn has_several_lines(&self, given: Settings<'_>) -> Result<bool, AllocError> {
+        Ok(matches!(self.form(given)?, Some(FileFormat::Values(_))))
     }
 }
 

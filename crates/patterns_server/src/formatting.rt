@@ -4,8 +4,8 @@ use crate::ranges::{Locator, touches};
 use fancy_syntax::span::Span;
 use json::Writer;
 use pattern_files::entry::{Entry, Unread, Visitor};
-use pattern_format::style::Style;
 use pattern_reports::json_lines::fields::write_text;
+use patterns_config::file_settings::FormatSettings;
 use patterns_program::edited::EditedPatterns;
 use patterns_text::error::RunError;
 
@@ -14,7 +14,9 @@ use patterns_text::error::RunError;
 struct FormatWalk<'d> {
     locator: Locator<'d>,
     patterns: &'d EditedPatterns,
-    style: Style,
+    settings: FormatSettings,
+    /// Whether patterns may have several lines.
+    has_lines: bool,
     /// The part, in byte offsets; None for all.
     part: Option<Span>,
     writer: &'d mut Writer,
@@ -26,7 +28,10 @@ impl Visitor for FormatWalk<'_> {
         if self.part.is_some_and(|part| !touches(part, entry.span)) {
             return Ok(());
         }
-        let Some(part) = self.patterns.formatted(entry, self.style)? else {
+        let formatted = self
+            .patterns
+            .formatted(entry, self.settings, self.has_lines)?;
+        let Some(part) = formatted else {
             return Ok(());
         };
         self.writer.begin_object()?;
@@ -57,12 +62,14 @@ pub(crate) fn write_formatted(
     part: Option<Span>,
     writer: &mut Writer,
 ) -> Result<(), RunError> {
-    let style = document.source.style(given)?;
+    let settings = document.source.format(given)?;
+    let has_lines = document.source.has_several_lines(given)?;
     writer.begin_array()?;
     let mut walk = FormatWalk {
         locator: Locator::new(given.encoding, document.source.text()),
         patterns: &document.patterns,
-        style,
+        settings,
+        has_lines,
         part,
         writer,
     };

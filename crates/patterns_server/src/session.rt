@@ -1,7 +1,7 @@
 //! What a client and the server have agreed on, the documents that are open, and what becomes of a message.
 use crate::actions::write_actions;
 use crate::asked::{About, Refused, WRONG_PARAMS, asked, offsets};
-use crate::capabilities::{encoding_of, style_of, write_capabilities};
+use crate::capabilities::{encoding_of, write_capabilities};
 use crate::diagnostics::{diagnostics, no_diagnostics};
 use crate::document::{OpenDocument, Opened, Settings};
 use crate::formatting::write_formatted;
@@ -19,7 +19,6 @@ use json_rpc::frame::write_message;
 use json_rpc::message::{Id, Message};
 use json_rpc::reply::{begin_answer, begin_notification, finish, refusal};
 use pattern_files::sources::System;
-use pattern_format::style::Style;
 use pattern_reports::json_lines::fields::{write_number, write_text};
 use patterns_config::choices::Choices;
 use patterns_text::error::RunError;
@@ -79,7 +78,6 @@ impl<'a, S: System, W: Write> Session<'a, S, W> {
                 alloc,
                 choices,
                 encoding: Encoding::Utf16,
-                style: Style::Kept,
             },
             system,
             out,
@@ -186,7 +184,6 @@ impl<'a, S: System, W: Write> Session<'a, S, W> {
         write_capabilities(&mut writer, encoding)?;
         let message = finish(writer)?;
         self.given.encoding = encoding;
-        self.given.style = style_of(params);
         self.stage = Stage::Running;
         self.send(&message)
     }
