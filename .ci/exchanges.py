@@ -3,7 +3,7 @@ r"""Exchanges of a client with `patterns server`, for `.ci/runs`; by itself `.ci
 Each is a file of crates/patterns/data/exchanges. A line `> JSON` is a message of the client, and `>> TEXT` are bytes that it writes as they
 are, with the escapes of Python. The lines `< JSON` below are the messages of the server that follow, with the names of their fields in the
 order in which they are written. A line `= STATUS` is the exit status, and `! TEXT` what is written to standard error. Other lines are
-comments. After each message the client asks for a method that no server has, and waits for the answer, which is not shown.
+comments. After each line `>` the client asks for a method that no server has, and waits for the answer, which is not shown.
 """
 import argparse
 import json
@@ -62,14 +62,18 @@ def message(stream) -> Optional[str]:
     return None
 
 
-def answers(process: subprocess.Popen, sent: bytes, barrier: bool) -> Iterator[str]:
-    """The messages that follow what is sent."""
-    asked = framed(json.dumps({"jsonrpc": "2.0", "id": BARRIER, "method": BARRIER})) if barrier else b""
+def send(process: subprocess.Popen, data: bytes) -> None:
+    """Writes to a server, which may have ended."""
     try:
-        process.stdin.write(sent + asked)
+        process.stdin.write(data)
         process.stdin.flush()
     except BrokenPipeError:
         pass
+
+
+def answers(process: subprocess.Popen) -> Iterator[str]:
+    """The messages of the server up to the answer to a method that it does not have, which is asked for."""
+    send(process, framed(json.dumps({"jsonrpc": "2.0", "id": BARRIER, "method": BARRIER})))
     while (got := message(process.stdout)) is not None:
         if json.loads(got).get("id") == BARRIER:
             return
@@ -85,7 +89,9 @@ def played(program: Path, text: str) -> str:
         for part in parts_of(text):
             lines.append(part.line)
             if part.sent is not None:
-                lines += [f"< {got}" for got in answers(process, part.sent, part.line.startswith("> "))]
+                send(process, part.sent)
+            if part.line.startswith("> "):
+                lines += [f"< {got}" for got in answers(process)]
         try:
             process.stdin.close()
         except BrokenPipeError:

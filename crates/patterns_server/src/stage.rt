@@ -29,10 +29,10 @@ pub(crate) fn decision_on(stage: Stage, method: Option<Method>) -> Decision
     ensures { result ≡ decision stage method }
 {
     match (stage, method) {
-        (_, None) => Decision::Refuse(ErrorCode::MethodNotFound),
         (Stage::New, Some(Method::Initialize)) => Decision::Begin,
-        (Stage::New, Some(_)) => Decision::Refuse(ErrorCode::NotInitialized),
-        (Stage::Running, Some(Method::Initialize)) | (Stage::ShutDown, Some(_)) => {
+        (Stage::New, _) => Decision::Refuse(ErrorCode::NotInitialized),
+        (Stage::Running, None) => Decision::Refuse(ErrorCode::MethodNotFound),
+        (Stage::Running, Some(Method::Initialize)) | (Stage::ShutDown, _) => {
             Decision::Refuse(ErrorCode::InvalidRequest)
         }
         (Stage::Running, Some(method)) => Decision::Answer(method),
