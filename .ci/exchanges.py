@@ -1,14 +1,12 @@
-r"""Exchanges of a client with `patterns server`, for `.ci/runs`; by itself `.ci/exchanges.py PROGRAM [--accept] [NAME..]`.
+r"""Exchanges of a client with `patterns server`, for `.ci/runs`.
 
 Each is a file of crates/patterns/data/exchanges. A line `> JSON` is a message of the client, and `>> TEXT` are bytes that it writes as they
 are, with the escapes of Python. The lines `< JSON` below are the messages of the server that follow, with the names of their fields in the
 order in which they are written. A line `= STATUS` is the exit status, and `! TEXT` what is written to standard error. Other lines are
 comments. After each line `>` the client asks for a method that no server has, and waits for the answer, which is not shown.
 """
-import argparse
 import json
 import subprocess
-import sys
 import tempfile
 from functools import partial
 from pathlib import Path
@@ -114,27 +112,9 @@ def parts() -> dict:
     return {"exchanges": [Check(f"exchanges/{it.name}", partial(exchange, it), decoded(it.read_bytes()), lambda got: got.out) for it in files]}
 
 
-def main() -> int:
-    """Plays exchanges with a program that is built."""
-    parser = argparse.ArgumentParser(description=__doc__, formatter_class=argparse.RawDescriptionHelpFormatter)
-    parser.add_argument("program", type=Path)
-    parser.add_argument("--accept", action="store_true")
-    parser.add_argument("names", metavar="NAME", nargs="*")
-    given = parser.parse_args()
-    wrong = 0
-    for file in sorted(EXCHANGES.glob("*.txt")):
-        if given.names and not any(name in file.name for name in given.names):
-            continue
-        wanted = decoded(file.read_bytes())
-        got = played(given.program.resolve(), wanted)
-        if got != wanted:
-            wrong += 1
-            print(f"{file.name}: otherwise:\n{got}")
-            if given.accept:
-                file.write_bytes(encoded(got))
-    print(f"{wrong} wrong")
-    return 1 if wrong and not given.accept else 0
-
-
-if __name__ == "__main__":
-    sys.exit(main())
+def accept(found: dict) -> int:
+    """Writes exchanges as they came out, and counts them."""
+    taken = {EXCHANGES / name.removeprefix("exchanges/"): got for name, got in found.items() if name.startswith("exchanges/")}
+    for file, got in taken.items():
+        file.write_bytes(encoded(got.out))
+    return len(taken)

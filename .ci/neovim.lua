@@ -20,7 +20,7 @@ local function run()
   end
 
   for _, one in ipairs(vim.diagnostic.get(buffer)) do
-    io.stdout:write(("%d:%d: %s [%s]\n"):format(one.lnum + 1, one.col + 1, one.message:gsub("\n", " "), one.code or ""))
+    io.stdout:write(("%d: %s\n"):format(one.lnum + 1, (one.message:gsub("\n.*", ""))))
   end
   local first = { start = { line = 0, character = 0 }, ["end"] = { line = 0, character = 999 } }
   local actions = asked("textDocument/codeAction", { range = first, context = { diagnostics = {} } })

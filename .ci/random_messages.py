@@ -1,4 +1,4 @@
-"""Random messages to `patterns server`: `.ci/random_messages.py PROGRAM [COUNT [SEED]]`.
+"""Random messages to `patterns server`, for `.ci/runs`; by itself `.ci/random_messages.py PROGRAM [COUNT [SEED]]`.
 
 Documents are opened, changed at random, whole and by ranges, and closed. What is reported after a change has to be what is reported when
 the text is opened that the changes lead to by the protocol, which is computed here. A change at a position that a document does not have
@@ -6,12 +6,17 @@ has to be refused, and the document to stay as it was. Each request has to get o
 """
 import json
 import random
+import re
 import subprocess
 import sys
 import tempfile
+from pathlib import Path
 from typing import Optional
 
 from exchanges import framed, message
+from programs import Check, Output, path_of
+
+COUNT = 400
 
 ALPHABET = ["a", "b", "(", ")", "|", "*", "{1}", "[a]", "[", "]", "\\d", "\\", "é", "𝄞", "\n", "\r", "\r\n", "?", "(?<n>", "\\k<n>", "#"]
 LINE_ENDS = ("\n", "\r")
@@ -89,7 +94,7 @@ def some_change(rng: random.Random, text: str) -> dict:
 
 
 REQUESTS = ("hover", "definition", "references", "documentHighlight", "rename", "formatting", "rangeFormatting", "codeAction",
-            "documentSymbol", "semanticTokens/full", "selectionRange", "unknown")
+            "documentSymbol", "foldingRange", "semanticTokens/full", "selectionRange", "unknown")
 
 
 class Client:
@@ -168,22 +173,31 @@ def sequence(rng: random.Random, client: Client, utf8: bool) -> int:
     return count
 
 
-def main() -> int:
-    """Sends random sequences."""
-    program = sys.argv[1]
-    total = int(sys.argv[2]) if len(sys.argv) > 2 else 1000
-    rng = random.Random(int(sys.argv[3]) if len(sys.argv) > 3 else 1)
-    count = 0
+def played(program: Path, total: int, seed: int) -> str:
+    """What comes of so many sequences, half of them with positions in UTF-16, and half in UTF-8."""
+    rng, count = random.Random(seed), 0
     with tempfile.TemporaryDirectory() as folder:
         for utf8 in (False, True):
-            client = Client(program, folder, utf8)
+            client = Client(str(program), folder, utf8)
             for _ in range(total // 2):
                 count += sequence(rng, client, utf8)
             client.ask("shutdown", {})
             client.send(method="exit")
             client.process.stdin.close()
             assert client.process.wait() == 0
-    print(f"{total} sequences, {count} messages")
+    return f"{total} sequences, {count} messages\n"
+
+
+def parts() -> dict:
+    """The checks."""
+    run = lambda: Output(re.sub(r", \d+", ", N", played(path_of("patterns"), COUNT, 1)), "", 0)
+    return {"random messages": [Check("random messages", run, f"{COUNT} sequences, N messages\n", lambda got: got.out)]}
+
+
+def main() -> int:
+    """Sends random sequences."""
+    total = int(sys.argv[2]) if len(sys.argv) > 2 else 1000
+    print(played(Path(sys.argv[1]), total, int(sys.argv[3]) if len(sys.argv) > 3 else 1), end="")
     return 0
 
 

@@ -9,10 +9,10 @@ use Rattle.editor_documents.specs.Change.{before}
 
 module _ (s r : List ℕ) (w : Text) (u : IsUtf8 s) (v : IsUtf8 r) (e : chars s ≡ w ++ chars r) where
   -- a text that ends with the characters of another text ends with its bytes
-  cut_bytes : s ≡ encodes w ++ r
+  pub cut_bytes : s ≡ encodes w ++ r
   cut_bytes = sym (encodes-chars s u) ∙ ap encodes e ∙ encodes-append w (chars r) ∙ ap (λ b. encodes w ++ b) (encodes-chars r v)
 
-  cut_lengths : length s ≡ length (encodes w) + length r
+  pub cut_lengths : length s ≡ length (encodes w) + length r
   cut_lengths = ap length cut_bytes ∙ length-append (encodes w) r
 
   pub cut_le : length r ≤ length s

@@ -1,3 +1,3 @@
 pub mod Change
-pub mod Place
+pub mod Cursor
 pub mod Position

@@ -3,7 +3,7 @@
 #![tactic(auto)]
 
 pub mod change;
+pub mod cursor;
 pub mod document;
-pub mod place;
 pub mod position;
 mod text;

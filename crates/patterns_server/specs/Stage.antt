@@ -8,11 +8,11 @@ use Rattle.patterns_server.specs.declared.stage.Stage.TheVariants.{New, Running,
 use Rattle.patterns_server.specs.declared.stage.Decision.{Decision}
 use Rattle.patterns_server.specs.declared.stage.Decision.TheVariants.{Begin, Answer, Refuse}
 
--- before the session begins only that is asked for; while it runs all but that; afterwards nothing
+-- before the session begins only that is taken; while it runs each known method but that; afterwards nothing
 abbrev pub decision : Stage → Option Method → Decision
-decision _ None = Refuse MethodNotFound
 decision New (Some Initialize) = Begin
-decision New (Some _) = Refuse NotInitialized
+decision New _ = Refuse NotInitialized
+decision Running None = Refuse MethodNotFound
 decision Running (Some Initialize) = Refuse InvalidRequest
 decision Running (Some m) = Answer m
-decision ShutDown (Some _) = Refuse InvalidRequest
+decision ShutDown _ = Refuse InvalidRequest

@@ -5,7 +5,7 @@ use fancy_syntax::span::Span;
 use json::Writer;
 use lint_rules::chosen::Level;
 use lint_rules::rule::Rule;
-use pattern_files::entry::{Entry, Unread, Visitor};
+use pattern_files::entry::{Entry, Visitor};
 use pattern_reports::json_lines::fields::write_text;
 use pattern_reports::kept::{PartText, Report};
 use patterns_program::edited::EditedPatterns;
@@ -119,18 +119,6 @@ impl Visitor for ActionWalk<'_> {
         }
         Ok(())
     }
-
-    fn unread(&mut self, _unread: Unread<'_>) -> Result<(), RunError> {
-        Ok(())
-    }
-
-    fn bom(&mut self) -> Result<(), RunError> {
-        Ok(())
-    }
-
-    fn is_done(&self) -> bool {
-        false
-    }
 }
 
 /// Writes the edits that fix all reports of patterns.
@@ -148,18 +136,6 @@ impl Visitor for FixWalk<'_> {
             write_edit(self.writer, located, &part)?;
         }
         Ok(())
-    }
-
-    fn unread(&mut self, _unread: Unread<'_>) -> Result<(), RunError> {
-        Ok(())
-    }
-
-    fn bom(&mut self) -> Result<(), RunError> {
-        Ok(())
-    }
-
-    fn is_done(&self) -> bool {
-        false
     }
 }
 

@@ -39,7 +39,7 @@ fn write_sync(writer: &mut Writer) -> Result<(), AllocError> {
 }
 
 /// The requests that are answered, by the names of their capabilities.
-static PROVIDERS: [&str; 10] = [
+static PROVIDERS: [&str; 11] = [
     "codeActionProvider",
     "documentFormattingProvider",
     "documentRangeFormattingProvider",
@@ -50,6 +50,7 @@ static PROVIDERS: [&str; 10] = [
     "renameProvider",
     "selectionRangeProvider",
     "documentSymbolProvider",
+    "foldingRangeProvider",
 ];
 
 /// Writes which kinds of tokens there are.

@@ -1,6 +1,8 @@
 //! What is reported on the patterns of a document.
 use crate::document::{OpenDocument, Settings};
-use crate::ranges::{Located, Locator, write_range};
+use crate::known::{KnownPattern, KnownPatterns};
+use crate::ranges::{Located, Locator, offset_of_column, write_range};
+use editor_documents::cursor::Cursor;
 use editor_documents::position::Position;
 use json::Writer;
 use json_rpc::reply::{begin_notification, finish};
@@ -12,11 +14,17 @@ use pattern_reports::kept::{PartText, Report};
 use pattern_reports::severity::Severity;
 use patterns_program::edited::EditedPatterns;
 use patterns_text::error::RunError;
-use patterns_text::position::Location;
 use std::alloc::{AllocError, Global};
-use std::collections::BTreeMap;
-use std::fmt::Write;
 use std::mem;
+
+/// How many reports on a document are sent, and those of one pattern more: editors show no more.
+const MAX_REPORTS: usize = 1000;
+
+/// How many bytes a document has at most whose patterns are reported on.
+const MAX_BYTES: usize = 8 << 20;
+
+/// That a document is not reported on.
+const TOO_LARGE: &str = "documents of more than 8 MiB are not searched for mistakes";
 
 /// The number that the protocol has for how bad it is what is reported.
 fn severity_number(severity: Severity) -> u64 {
@@ -102,33 +110,35 @@ fn write_report(
     writer.end_object()
 }
 
-/// What the reports on the pattern of an entry follow from: its text, and what the object around it says of groups.
-fn key_of(alloc: Global, entry: Entry<'_>) -> Result<String, AllocError> {
-    let mut key = String::from_str(alloc, entry.pattern)?;
-    if let Some(rule) = entry.grammar {
-        let refers_to_begin = Location::at(entry.file, entry.spot).refers_to_begin();
-        write!(key, "\0{refers_to_begin}")?;
-        if let Some(groups) = rule.begin_groups {
-            write!(key, " {groups}")?;
-        }
-        for capture in &rule.captures {
-            let name = capture.key.name();
-            write!(key, " {name} {} {}", capture.group, capture.total)?;
-        }
-    }
-    Ok(key)
+/// Writes a report that is not on a pattern.
+fn write_notice(
+    writer: &mut Writer,
+    position: Position,
+    severity: Severity,
+    message: &str,
+) -> Result<(), AllocError> {
+    writer.begin_object()?;
+    writer.key("range")?;
+    write_range(writer, position, position)?;
+    write_number(writer, "severity", severity_number(severity))?;
+    write_text(writer, "source", "patterns")?;
+    write_text(writer, "message", message)?;
+    writer.end_object()
 }
 
 /// Writes what is reported on the patterns of a document, one after another.
 #[derive(Drop)]
 struct ReportWalk<'d> {
-    alloc: Global,
+    given: Settings<'d>,
     uri: &'d str,
+    text: &'d str,
     locator: Locator<'d>,
     patterns: &'d mut EditedPatterns,
-    /// What was reported before the last change, by what the reports follow from, and what is reported now.
-    old: BTreeMap<String, Vec<Report>>,
-    new: BTreeMap<String, Vec<Report>>,
+    /// The patterns before the last change, and those that are there now.
+    old: KnownPatterns,
+    new: Vec<KnownPattern>,
+    /// How many reports are written.
+    count: usize,
     writer: Writer,
 }
 
@@ -136,57 +146,122 @@ impl ReportWalk<'_> {
     /// Writes the reports on a pattern.
     fn write(&mut self, located: Located<'_, '_>, reports: &[Report]) -> Result<(), AllocError> {
         for report in reports {
-            write_report(self.alloc, &mut self.writer, self.uri, located, report)?;
+            write_report(
+                self.given.alloc,
+                &mut self.writer,
+                self.uri,
+                located,
+                report,
+            )?;
         }
+        self.count = self.count.saturating_add(reports.len());
         Ok(())
     }
 
-    /// The reports that follow from the key, which are known or are now found.
-    fn found(&mut self, key: &str, entry: Entry<'_>) -> Result<Vec<Report>, RunError> {
-        if let Some(reports) = self.new.remove(key) {
-            return Ok(reports);
+    /// The pattern of an entry with its reports, which are known or are now found.
+    fn known(&mut self, entry: Entry<'_>) -> Result<KnownPattern, RunError> {
+        if let Some(known) = self.old.take(entry)? {
+            return Ok(known);
         }
-        if let Some(reports) = self.old.remove(key) {
-            return Ok(reports);
-        }
-        self.patterns.reports(entry)
+        let reports = self.patterns.reports(entry)?;
+        Ok(KnownPattern::new(self.given.alloc, entry, reports)?)
     }
 }
 
 impl Visitor for ReportWalk<'_> {
     fn pattern(&mut self, entry: Entry<'_>) -> Result<(), RunError> {
         let located = self.locator.locate(entry);
-        let key = key_of(self.alloc, entry)?;
-        let reports = self.found(key.as_str(), entry)?;
-        self.write(located, &reports)?;
-        self.new.insert(key, reports)?;
+        let known = self.known(entry)?;
+        self.write(located, &known.reports)?;
+        self.new.push(known)?;
+        if self.count >= MAX_REPORTS {
+            let message = format!(in self.given.alloc; "no more than {MAX_REPORTS} reports are shown")?;
+            write_notice(
+                &mut self.writer,
+                located.start(),
+                Severity::Notice,
+                message.as_str(),
+            )?;
+        }
         Ok(())
     }
 
     fn unread(&mut self, unread: Unread<'_>) -> Result<(), RunError> {
-        let start = Position {
-            line: 0,
-            character: 0,
-        };
-        let message = format!(in self.alloc; "{unread}")?;
-        let writer = &mut self.writer;
-        writer.begin_object()?;
-        writer.key("range")?;
-        write_range(writer, start, start)?;
-        write_number(writer, "severity", severity_number(Severity::Error))?;
-        write_text(writer, "source", "patterns")?;
-        write_text(writer, "message", message.as_str())?;
-        writer.end_object()?;
-        Ok(())
-    }
-
-    fn bom(&mut self) -> Result<(), RunError> {
+        let (line, column) = unread.position();
+        let offset = offset_of_column(self.text, line, column);
+        let position = Cursor::start(self.given.encoding, self.text).after(offset);
+        let message = format!(in self.given.alloc; "{}", unread.reason)?;
+        write_notice(
+            &mut self.writer,
+            position.position(),
+            Severity::Error,
+            message.as_str(),
+        )?;
         Ok(())
     }
 
     fn is_done(&self) -> bool {
-        false
+        self.count >= MAX_REPORTS
     }
+}
+
+/// Begins the notification of what is reported on a document. The reports are to be written next.
+fn begin_reports(alloc: Global, uri: &str, version: Option<i64>) -> Result<Writer, AllocError> {
+    let mut writer = begin_notification(alloc, "textDocument/publishDiagnostics")?;
+    writer.begin_object()?;
+    write_text(&mut writer, "uri", uri)?;
+    if let Some(version) = version {
+        writer.key("version")?;
+        writer.i64(version)?;
+    }
+    writer.key("diagnostics")?;
+    writer.begin_array()?;
+    Ok(writer)
+}
+
+/// Ends it.
+fn end_reports(mut writer: Writer) -> Result<Vec<u8>, AllocError> {
+    writer.end_array()?;
+    writer.end_object()?;
+    finish(writer)
+}
+
+/// Writes what is reported on the patterns of a document.
+fn write_reports(
+    given: Settings<'_>,
+    uri: &str,
+    document: &mut OpenDocument,
+    writer: Writer,
+) -> Result<Writer, RunError> {
+    let alloc = given.alloc;
+    let flags = document.patterns.flags;
+    let old = mem::replace(&mut document.known, Vec::new(alloc));
+    let text = document.source.text();
+    let mut walk = ReportWalk {
+        given,
+        uri,
+        text,
+        locator: Locator::new(given.encoding, text),
+        patterns: &mut document.patterns,
+        old: KnownPatterns::new(alloc, old),
+        new: Vec::new(alloc),
+        count: 0,
+        writer,
+    };
+    document.source.visit(given, flags, &mut walk)?;
+    let ReportWalk {
+        given: _,
+        uri: _,
+        text: _,
+        locator: _,
+        patterns: _,
+        old: _,
+        new,
+        count: _,
+        writer,
+    } = walk;
+    document.known = new;
+    Ok(writer)
 }
 
 /// The notification of what is reported on a document.
@@ -195,48 +270,18 @@ pub(crate) fn diagnostics(
     uri: &str,
     document: &mut OpenDocument,
 ) -> Result<Vec<u8>, RunError> {
-    let alloc = given.alloc;
-    let mut writer = begin_notification(alloc, "textDocument/publishDiagnostics")?;
-    writer.begin_object()?;
-    write_text(&mut writer, "uri", uri)?;
-    writer.key("version")?;
-    writer.i64(document.source.document.version)?;
-    writer.key("diagnostics")?;
-    writer.begin_array()?;
-    let flags = document.patterns.flags;
-    let mut walk = ReportWalk {
-        alloc,
-        uri,
-        locator: Locator::new(given.encoding, document.source.text()),
-        patterns: &mut document.patterns,
-        old: mem::replace(&mut document.reports, BTreeMap::new(alloc)),
-        new: BTreeMap::new(alloc),
-        writer,
-    };
-    document.source.visit(given, flags, &mut walk)?;
-    let ReportWalk {
-        alloc: _,
-        uri: _,
-        locator: _,
-        patterns: _,
-        old: _,
-        new,
-        mut writer,
-    } = walk;
-    document.reports = new;
-    writer.end_array()?;
-    writer.end_object()?;
-    Ok(finish(writer)?)
+    let version = document.source.document.version;
+    let mut writer = begin_reports(given.alloc, uri, Some(version))?;
+    if document.source.text().len() > MAX_BYTES {
+        let start = Cursor::start(given.encoding, "").position();
+        write_notice(&mut writer, start, Severity::Notice, TOO_LARGE)?;
+    } else {
+        writer = write_reports(given, uri, document, writer)?;
+    }
+    Ok(end_reports(writer)?)
 }
 
 /// The notification that nothing is reported on a document that is closed.
 pub(crate) fn no_diagnostics(alloc: Global, uri: &str) -> Result<Vec<u8>, AllocError> {
-    let mut writer = begin_notification(alloc, "textDocument/publishDiagnostics")?;
-    writer.begin_object()?;
-    write_text(&mut writer, "uri", uri)?;
-    writer.key("diagnostics")?;
-    writer.begin_array()?;
-    writer.end_array()?;
-    writer.end_object()?;
-    finish(writer)
+    end_reports(begin_reports(alloc, uri, None)?)
 }

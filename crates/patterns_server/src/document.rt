@@ -1,4 +1,5 @@
 //! Documents that are open.
+use crate::known::KnownPattern;
 use crate::uri::path_of;
 use editor_documents::document::Document;
 use editor_documents::position::Encoding;
@@ -8,7 +9,6 @@ use pattern_files::lines::Ending;
 use pattern_files::sources::{STANDARD_INPUT, System};
 use pattern_files::values::keys::Keys;
 use pattern_files::walk::{FileShape, visit};
-use pattern_reports::kept::Report;
 use patterns_config::choices::Choices;
 use patterns_config::file_settings::{
     FileSettings, FormatSettings, flags_with, format_with, is_form_chosen, keys_with, levels_with,
@@ -17,7 +17,6 @@ use patterns_config::plan::{Plan, PlanRequest};
 use patterns_program::edited::EditedPatterns;
 use patterns_text::error::RunError;
 use std::alloc::{AllocError, Global};
-use std::collections::BTreeMap;
 
 /// What is given for all documents.
 #[derive(Clone, Copy)]
@@ -43,8 +42,8 @@ pub(crate) struct DocumentSource {
 pub(crate) struct OpenDocument {
     pub(crate) source: DocumentSource,
     pub(crate) patterns: EditedPatterns,
-    /// The reports on its patterns, by what they follow from.
-    pub(crate) reports: BTreeMap<String, Vec<Report>>,
+    /// Its patterns, with the reports on them, as they were last sent.
+    pub(crate) known: Vec<KnownPattern>,
 }
 
 /// How a grammar of TextMate has patterns.
@@ -110,8 +109,11 @@ impl DocumentSource {
     }
 
     /// How it has patterns; None if it has none.
-    fn form(&self, given: Settings<'_>) -> Result<Option<FileFormat<'_>>, AllocError> {
+    fn form<'s>(&'s self, given: Settings<'s>) -> Result<Option<FileFormat<'s>>, AllocError> {
         let Settings { alloc, choices, .. } = given;
+        if choices.has_form {
+            return Ok(Some(choices.form));
+        }
         let settings = self.settings(alloc)?;
         if let Some(keys) = keys_with(choices, &settings) {
             return Ok(Some(FileFormat::Values(keys)));
@@ -151,7 +153,10 @@ impl DocumentSource {
 
     /// Whether its patterns may have several lines.
     pub(crate) fn has_several_lines(&self, given: Settings<'_>) -> Result<bool, AllocError> {
-        Ok(matches!(self.form(given)?, Some(FileFormat::Values(_))))
+        Ok(match self.form(given)? {
+            Some(FileFormat::Values(_) | FileFormat::Records(Ending::Null)) => true,
+            Some(FileFormat::Records(Ending::Line) | FileFormat::Extracted) | None => false,
+        })
     }
 }
 
@@ -192,7 +197,7 @@ impl OpenDocument {
         Ok(OpenDocument {
             source,
             patterns,
-            reports: BTreeMap::new(alloc),
+            known: Vec::new(alloc),
         })
     }
 
@@ -205,7 +210,7 @@ impl OpenDocument {
     ) -> Result<(), RunError> {
         self.source.plan = plan_of(given, self.source.name.as_str(), system, err)?;
         self.patterns = self.source.patterns(given)?;
-        self.reports = BTreeMap::new(given.alloc);
+        self.known = Vec::new(given.alloc);
         Ok(())
     }
 }

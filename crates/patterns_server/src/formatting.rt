@@ -3,7 +3,7 @@ use crate::document::{OpenDocument, Settings};
 use crate::ranges::{Locator, touches};
 use fancy_syntax::span::Span;
 use json::Writer;
-use pattern_files::entry::{Entry, Unread, Visitor};
+use pattern_files::entry::{Entry, Visitor};
 use pattern_reports::json_lines::fields::write_text;
 use patterns_config::file_settings::FormatSettings;
 use patterns_program::edited::EditedPatterns;
@@ -40,18 +40,6 @@ impl Visitor for FormatWalk<'_> {
         write_text(self.writer, "newText", part.text.as_str())?;
         self.writer.end_object()?;
         Ok(())
-    }
-
-    fn unread(&mut self, _unread: Unread<'_>) -> Result<(), RunError> {
-        Ok(())
-    }
-
-    fn bom(&mut self) -> Result<(), RunError> {
-        Ok(())
-    }
-
-    fn is_done(&self) -> bool {
-        false
     }
 }
 

@@ -15,11 +15,12 @@ pub(crate) enum Method {
     Rename,
     SelectionRange,
     Symbols,
+    FoldingRange,
     SemanticTokens,
 }
 
 /// The methods with an answer, by their names.
-static METHODS: [(&str, Method); 13] = [
+static METHODS: [(&str, Method); 14] = [
     ("initialize", Method::Initialize),
     ("shutdown", Method::Shutdown),
     ("textDocument/codeAction", Method::CodeAction),
@@ -32,6 +33,7 @@ static METHODS: [(&str, Method); 13] = [
     ("textDocument/rename", Method::Rename),
     ("textDocument/selectionRange", Method::SelectionRange),
     ("textDocument/documentSymbol", Method::Symbols),
+    ("textDocument/foldingRange", Method::FoldingRange),
     ("textDocument/semanticTokens/full", Method::SemanticTokens),
 ];
 

@@ -1,16 +1,30 @@
 //! Names of groups, and new ones in their place.
 use crate::actions::{begin_changes, end_changes, write_edit};
+use crate::asked::Refused;
 use crate::query::ReadPattern;
 use fancy_syntax::expr::Expr;
 use fancy_syntax::span::Span;
 use fancy_syntax::spanned::{SpannedNode, SpannedTree};
 use fancy_syntax::tree::ExprTree;
 use json::Writer;
+use json_rpc::error_code::ErrorCode;
 use patterns_program::edited::EditedPatterns;
 use patterns_text::error::RunError;
 use patterns_text::names::Names;
 use patterns_text::subject::Subject;
 use std::alloc::{AllocError, Global};
+
+/// That there is nothing to rename.
+const NO_NAME: Refused = Refused {
+    code: ErrorCode::RequestFailed,
+    reason: "no group with a name is there",
+};
+
+/// That a name is not given.
+const OTHER_PATTERN: Refused = Refused {
+    code: ErrorCode::RequestFailed,
+    reason: "with this name the pattern would be another one",
+};
 
 /// Whether a character may be part of a name.
 fn is_word(c: char) -> bool {
@@ -142,8 +156,7 @@ fn renamed(
     Ok(is_same.then_some(text))
 }
 
-/// Writes the change by which the group that is meant at a node gets a new name; null if it has no name, or if the pattern
-/// would be another one.
+/// Writes the change by which the group that is meant at a node gets a new name, or says why there is none.
 pub(crate) fn write_renamed(
     pattern: ReadPattern<'_, '_, '_>,
     uri: &str,
@@ -151,16 +164,19 @@ pub(crate) fn write_renamed(
     new: &str,
     patterns: &EditedPatterns,
     writer: &mut Writer,
-) -> Result<(), RunError> {
+) -> Result<Result<(), Refused>, RunError> {
     let names = Names::of(pattern.subject.alloc, &pattern.parsed.tree)?;
-    if let Some(name) = pattern.meant(node).and_then(|number| names.name(number))
-        && let Some(text) = renamed(pattern, name, new)?
-        && let Some(part) = patterns.fixed_to(pattern.located.entry, text.as_str())?
-    {
-        begin_changes(writer, uri)?;
-        write_edit(writer, pattern.located, &part)?;
-        return Ok(end_changes(writer)?);
-    }
-    writer.null()?;
-    Ok(())
+    let Some(name) = pattern.meant(node).and_then(|number| names.name(number)) else {
+        return Ok(Err(NO_NAME));
+    };
+    let Some(text) = renamed(pattern, name, new)? else {
+        return Ok(Err(OTHER_PATTERN));
+    };
+    let Some(part) = patterns.fixed_to(pattern.located.entry, text.as_str())? else {
+        return Ok(Err(OTHER_PATTERN));
+    };
+    begin_changes(writer, uri)?;
+    write_edit(writer, pattern.located, &part)?;
+    end_changes(writer)?;
+    Ok(Ok(()))
 }

@@ -4,7 +4,7 @@ use crate::ranges::{Located, Locator};
 use fancy_syntax::expr::Expr;
 use fancy_syntax::span::Span;
 use json::Writer;
-use pattern_files::entry::{Entry, Unread, Visitor};
+use pattern_files::entry::{Entry, Visitor};
 use pattern_reports::json_lines::fields::{write_number, write_text};
 use patterns_program::edited::EditedPatterns;
 use patterns_text::error::RunError;
@@ -87,18 +87,6 @@ impl Visitor for OutlineWalk<'_> {
         self.writer.end_array()?;
         self.writer.end_object()?;
         Ok(())
-    }
-
-    fn unread(&mut self, _unread: Unread<'_>) -> Result<(), RunError> {
-        Ok(())
-    }
-
-    fn bom(&mut self) -> Result<(), RunError> {
-        Ok(())
-    }
-
-    fn is_done(&self) -> bool {
-        false
     }
 }
 

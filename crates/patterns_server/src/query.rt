@@ -1,15 +1,16 @@
 //! What is asked about the part of a pattern at a position.
+use crate::asked::Refused;
 use crate::document::{OpenDocument, Settings};
 use crate::named::write_renamed;
 use crate::ranges::{Located, Locator, write_range};
 use class_meaning::characters_of;
-use editor_documents::place::Place;
+use editor_documents::cursor::Cursor;
 use fancy_lex::flags::Flags;
 use fancy_syntax::expr::Expr;
 use fancy_syntax::span::Span;
 use fancy_syntax::spanned::{SpannedNode, SpannedTree};
 use json::Writer;
-use pattern_files::entry::{Entry, Unread, Visitor};
+use pattern_files::entry::{Entry, Visitor};
 use pattern_reports::json_lines::fields::{write_number, write_text};
 use patterns_listing::class_words::ClassWords;
 use patterns_program::edited::EditedPatterns;
@@ -275,6 +276,8 @@ struct QueryWalk<'d> {
     locator: Locator<'d>,
     patterns: &'d EditedPatterns,
     is_answered: bool,
+    /// Why it is refused, if it is.
+    refused: Option<Refused>,
     writer: &'d mut Writer,
 }
 
@@ -295,7 +298,8 @@ impl QueryWalk<'_> {
             Query::Highlight => write_highlights(pattern, node, writer)?,
             Query::Selection => write_selection(pattern, &path, writer)?,
             Query::Rename(name) => {
-                write_renamed(pattern, uri, node, name, self.patterns, writer)?;
+                let renamed = write_renamed(pattern, uri, node, name, self.patterns, writer)?;
+                self.refused = renamed.err();
             }
         }
         self.is_answered = true;
@@ -323,14 +327,6 @@ impl Visitor for QueryWalk<'_> {
         self.answer(pattern, located.offset(self.offset))
     }
 
-    fn unread(&mut self, _unread: Unread<'_>) -> Result<(), RunError> {
-        Ok(())
-    }
-
-    fn bom(&mut self) -> Result<(), RunError> {
-        Ok(())
-    }
-
     fn is_done(&self) -> bool {
         self.is_answered
     }
@@ -347,14 +343,14 @@ fn write_nothing(
     let Query::Selection = query else {
         return writer.null();
     };
-    let position = Place::start(given.encoding, text).after(offset).position();
+    let position = Cursor::start(given.encoding, text).after(offset).position();
     writer.begin_object()?;
     writer.key("range")?;
     write_range(writer, position, position)?;
     writer.end_object()
 }
 
-/// Writes the answer to a query about what is at the byte offset of a document.
+/// Writes the answer to a query about what is at the byte offset of a document, or says why there is none.
 pub(crate) fn write_answer(
     given: Settings<'_>,
     uri: &str,
@@ -362,7 +358,7 @@ pub(crate) fn write_answer(
     offset: usize,
     query: Query<'_>,
     writer: &mut Writer,
-) -> Result<(), RunError> {
+) -> Result<Result<(), Refused>, RunError> {
     let mut walk = QueryWalk {
         alloc: given.alloc,
         query,
@@ -371,6 +367,7 @@ pub(crate) fn write_answer(
         locator: Locator::new(given.encoding, document.source.text()),
         patterns: &document.patterns,
         is_answered: false,
+        refused: None,
         writer,
     };
     document
@@ -379,5 +376,8 @@ pub(crate) fn write_answer(
     if !walk.is_answered {
         write_nothing(given, document.source.text(), offset, query, walk.writer)?;
     }
-    Ok(())
+    match walk.refused {
+        Some(refused) => Ok(Err(refused)),
+        None => Ok(Ok(())),
+    }
 }

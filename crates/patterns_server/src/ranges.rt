@@ -1,5 +1,5 @@
 //! Where the patterns of a document are, as the protocol has it.
-use editor_documents::place::Place;
+use editor_documents::cursor::Cursor;
 use editor_documents::position::{Encoding, Position};
 use fancy_syntax::span::Span;
 use json::Writer;
@@ -12,7 +12,7 @@ use std::alloc::AllocError;
 /// Goes through the text of a document from pattern to pattern.
 #[derive(Clone, Copy)]
 pub(crate) struct Locator<'d> {
-    place: Place<'d>,
+    cursor: Cursor<'d>,
     /// How many bytes are before it.
     offset: usize,
 }
@@ -21,7 +21,7 @@ impl<'d> Locator<'d> {
     /// Before the text.
     pub(crate) fn new(encoding: Encoding, text: &'d str) -> Locator<'d> {
         Locator {
-            place: Place::start(encoding, text),
+            cursor: Cursor::start(encoding, text),
             offset: 0,
         }
     }
@@ -30,10 +30,10 @@ impl<'d> Locator<'d> {
     pub(crate) fn locate<'s>(&mut self, entry: Entry<'s>) -> Located<'d, 's> {
         let start = entry.span.start;
         let bytes = start.saturating_sub(self.offset);
-        self.place = self.place.after(bytes);
+        self.cursor = self.cursor.after(bytes);
         self.offset = start;
         Located {
-            place: self.place,
+            cursor: self.cursor,
             entry,
         }
     }
@@ -43,11 +43,16 @@ impl<'d> Locator<'d> {
 #[derive(Clone, Copy)]
 pub(crate) struct Located<'d, 's> {
     /// Where it begins.
-    place: Place<'d>,
+    cursor: Cursor<'d>,
     pub(crate) entry: Entry<'s>,
 }
 
 impl Located<'_, '_> {
+    /// Where it begins.
+    pub(crate) fn start(self) -> Position {
+        self.cursor.position()
+    }
+
     /// How its document spells it.
     fn form(self) -> SpelledIn {
         match self.entry.spot {
@@ -93,8 +98,8 @@ impl Located<'_, '_> {
 
     /// Where the span of it starts and ends.
     pub(crate) fn positions(self, span: Span) -> (Position, Position) {
-        let start = self.place.after(self.inside(span.start));
-        let end = self.place.after(self.inside(span.end));
+        let start = self.cursor.after(self.inside(span.start));
+        let end = self.cursor.after(self.inside(span.end));
         (start.position(), end.position())
     }
 
@@ -106,9 +111,27 @@ impl Located<'_, '_> {
 
     /// Writes the range of all of it.
     pub(crate) fn write_whole(self, writer: &mut Writer) -> Result<(), AllocError> {
-        let end = self.place.after(self.entry.contents.len());
-        write_range(writer, self.place.position(), end.position())
+        let end = self.cursor.after(self.entry.contents.len());
+        write_range(writer, self.start(), end.position())
     }
+}
+
+/// How many bytes of a text are before a column of a line, both counted from 1: the column in characters, and lines by LF.
+pub(crate) fn offset_of_column(text: &str, line: u64, column: u64) -> usize {
+    let mut rest = text;
+    for _ in 1..line {
+        match rest.split_once('\n') {
+            Some((_, next)) => rest = next,
+            None => break,
+        }
+    }
+    let mut chars = rest.chars();
+    for _ in 1..column {
+        if chars.next().is_none() {
+            break;
+        }
+    }
+    text.len().saturating_sub(chars.as_str().len())
 }
 
 /// Writes a position.

@@ -4,6 +4,7 @@ use crate::asked::{About, Refused, WRONG_PARAMS, asked, offsets};
 use crate::capabilities::{encoding_of, write_capabilities};
 use crate::diagnostics::{diagnostics, no_diagnostics};
 use crate::document::{OpenDocument, Opened, Settings};
+use crate::folding::write_folds;
 use crate::formatting::write_formatted;
 use crate::method::Method;
 use crate::outline::write_symbols;
@@ -227,10 +228,7 @@ impl<'a, S: System, W: Write> Session<'a, S, W> {
         let text = document.source.text();
         if method == Method::SelectionRange {
             return match offsets(given, text, params)? {
-                Ok(offsets) => {
-                    write_selections(given, uri, document, &offsets, writer)?;
-                    Ok(Ok(()))
-                }
+                Ok(offsets) => write_selections(given, uri, document, &offsets, writer),
                 Err(refused) => Ok(Err(refused)),
             };
         }
@@ -241,7 +239,7 @@ impl<'a, S: System, W: Write> Session<'a, S, W> {
             }
             Ok(About::Part(part)) => write_actions(given, uri, document, part, writer)?,
             Ok(About::Position(offset, query)) => {
-                write_answer(given, uri, document, offset, query, writer)?;
+                return write_answer(given, uri, document, offset, query, writer);
             }
             Err(refused) => return Ok(Err(refused)),
         }
@@ -381,6 +379,7 @@ fn write_of_document(
 ) -> Result<(), RunError> {
     match method {
         Method::Symbols => write_symbols(given, document, writer),
+        Method::FoldingRange => write_folds(given, document, writer),
         Method::SemanticTokens => write_tokens(given, document, writer),
         _ => write_formatted(given, document, None, writer),
     }
@@ -393,11 +392,14 @@ fn write_selections(
     document: &OpenDocument,
     offsets: &[usize],
     writer: &mut Writer,
-) -> Result<(), RunError> {
+) -> Result<Result<(), Refused>, RunError> {
     writer.begin_array()?;
     for offset in offsets {
-        write_answer(given, uri, document, *offset, Query::Selection, writer)?;
+        let answered = write_answer(given, uri, document, *offset, Query::Selection, writer)?;
+        if let Err(refused) = answered {
+            return Ok(Err(refused));
+        }
     }
     writer.end_array()?;
-    Ok(())
+    Ok(Ok(()))
 }

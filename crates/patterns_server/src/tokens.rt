@@ -7,7 +7,7 @@ use fancy_syntax::span::Span;
 use fancy_syntax::spanned::{SpannedNode, SpannedTree};
 use fancy_syntax::trivium::{Trivium, TriviumKind};
 use json::Writer;
-use pattern_files::entry::{Entry, Unread, Visitor};
+use pattern_files::entry::{Entry, Visitor};
 use patterns_program::edited::EditedPatterns;
 use patterns_text::error::RunError;
 use patterns_text::nodes::nodes_of;
@@ -152,18 +152,6 @@ impl Visitor for TokenWalk<'_> {
             }
         }
         Ok(())
-    }
-
-    fn unread(&mut self, _unread: Unread<'_>) -> Result<(), RunError> {
-        Ok(())
-    }
-
-    fn bom(&mut self) -> Result<(), RunError> {
-        Ok(())
-    }
-
-    fn is_done(&self) -> bool {
-        false
     }
 }
 

@@ -1,6 +1,6 @@
 use Rattle.std.proofs.Common.{Some, ap, sym, ◌∙◌}
-use Rattle.editor_documents.proofs.PlaceLemmas.{after_line, after_character}
-use Rattle.editor_documents.proofs.place.Place.next.Goals as goal
+use Rattle.editor_documents.proofs.CursorLemmas.{after_line, after_character}
+use Rattle.editor_documents.proofs.cursor.Cursor.next.Goals as goal
 
 pub returns-then-ends_line-clause-within : goal.returns-then-ends_line-clause-within
 returns-then-ends_line-clause-within c t within =
