@@ -1,19 +1,19 @@
 //! Messages between headers, on streams of bytes.
-ghost use Rattle.std.specs.Prelude.{OnOk};
-ghost use Rattle.std.specs.Io.KnownBytes.{Appends};
+ghost use Rattle.std.specs.Prelude.{OnOk, IfOk, IfSome, [], ◌∷◌};
+ghost use Rattle.std.specs.Io.KnownBytes.{Appends, Consumes};
 ghost use Rattle.json_rpc.specs.Header.{frame};
 
 use crate::header::{HeaderLine, header_line};
 use std::alloc::{AllocError, Global};
 use std::io;
-use std::io::{BufRead, ErrorKind, Read, Write};
+use std::io::{ErrorKind, Read, Write};
 use thiserror::Error;
 
 /// How many bytes a message may have.
 pub const MAX_LENGTH: usize = 256 << 20;
 
 /// How many bytes a line of a header may have.
-const MAX_LINE: u64 = 4096;
+const MAX_LINE: usize = 4096;
 
 /// How many lines a header may have.
 const MAX_LINES: usize = 64;
@@ -45,34 +45,54 @@ impl From<AllocError> for FrameError {
 
 impl From<io::Error> for FrameError {
     fn from(error: io::Error) -> FrameError {
-        if error.kind() == ErrorKind::OutOfMemory {
-            return FrameError::Memory;
+        match error.kind() {
+            ErrorKind::OutOfMemory => FrameError::Memory,
+            ErrorKind::UnexpectedEof => FrameError::Ended,
+            _ => FrameError::System(error),
         }
-        FrameError::System(error)
+    }
+}
+
+/// Reads the next byte; None if the stream ends before it.
+fn read_byte<R: Read>(reader: &mut R) -> Result<Option<u8>, FrameError>
+    ensures { IfOk result (λ read. IfSome read (λ byte.
+        Consumes (R.remaining reader.old) (R.remaining reader.new) (byte ∷ []))) }
+{
+    let mut byte = [0];
+    match reader.read_exact(&mut byte) {
+        Ok(()) => Ok(Some(byte[0])),
+        Err(error) if error.kind() == ErrorKind::UnexpectedEof => Ok(None),
+        Err(error) => Err(FrameError::from(error)),
     }
 }
 
 /// Reads a line of a header into the buffer, in the place of what it held: what is before its CR LF; None if the stream ends
 /// before the line.
-fn read_line<'b, R: BufRead>(
+fn read_line<'b, R: Read>(
     reader: &mut R,
     buffer: &'b mut Vec<u8>,
 ) -> Result<Option<&'b [u8]>, FrameError> {
     buffer.clear();
-    if reader.take(MAX_LINE).read_until(b'\n', buffer)? == 0 {
-        return Ok(None);
+    for _ in 0..MAX_LINE {
+        let Some(byte) = read_byte(reader)? else {
+            if buffer.is_empty() {
+                return Ok(None);
+            }
+            return Err(FrameError::Ended);
+        };
+        buffer.push(byte)?;
+        if byte == b'\n' {
+            break;
+        }
     }
     match buffer.strip_suffix(b"\r\n") {
         Some(line) => Ok(Some(line)),
-        None if buffer.len() as u64 == MAX_LINE || buffer.ends_with(b"\n") => {
-            Err(FrameError::Header)
-        }
-        None => Err(FrameError::Ended),
+        None => Err(FrameError::Header),
     }
 }
 
 /// Reads a header: how many bytes the message has; None if the stream ends before it.
-fn read_header<R: BufRead>(alloc: Global, reader: &mut R) -> Result<Option<usize>, FrameError> {
+fn read_header<R: Read>(alloc: Global, reader: &mut R) -> Result<Option<usize>, FrameError> {
     let mut buffer = Vec::new(alloc);
     let mut length = None;
     for number in 0..MAX_LINES {
@@ -95,7 +115,7 @@ fn read_header<R: BufRead>(alloc: Global, reader: &mut R) -> Result<Option<usize
 }
 
 /// Reads a message with its header, and returns the message; None if the stream ends before it.
-pub fn read_message<R: BufRead>(
+pub fn read_message<R: Read>(
     alloc: Global,
     reader: &mut R,
 ) -> Result<Option<Vec<u8>>, FrameError> {
@@ -105,11 +125,8 @@ pub fn read_message<R: BufRead>(
     if length > MAX_LENGTH {
         return Err(FrameError::TooLong(length));
     }
-    let mut message = Vec::new(alloc);
-    reader.take(length as u64).read_to_end(&mut message)?;
-    if message.len() < length {
-        return Err(FrameError::Ended);
-    }
+    let mut message = vec![in alloc; 0; length]?;
+    reader.read_exact(&mut message)?;
     Ok(Some(message))
 }
 

@@ -1,6 +1,7 @@
 //! The lines of a header.
-ghost use Rattle.std.specs.Prelude.{◌≡◌};
-ghost use Rattle.json_rpc.specs.Header as spec;
+ghost use Rattle.std.specs.Prelude.{◌≡◌, ℕ, ◌<◌, ◌^◌, []};
+ghost use Rattle.json_rpc.specs.Header.{length_field};
+ghost use Rattle.json_rpc.specs.declared.header.HeaderLine.TheVariants.{End, Length};
 
 use std::str;
 
@@ -17,27 +18,11 @@ pub(crate) enum HeaderLine {
     Invalid,
 }
 
-/// The number that the bytes spell with one decimal digit or more; None if they spell none, or one that does not fit.
-fn number(digits: &[u8]) -> Option<usize>
-    ensures { result ≡ spec.number digits.now }
-{
-    if digits.is_empty() {
-        return None;
-    }
-    let mut number = 0usize;
-    for digit in digits {
-        if !digit.is_ascii_digit() {
-            return None;
-        }
-        number = number
-            .checked_mul(10)?
-            .checked_add((*digit - b'0') as usize)?;
-    }
-    Some(number)
-}
-
 /// What a line says, which is given without its end.
-pub(crate) fn header_line(line: &[u8]) -> HeaderLine {
+pub(crate) fn header_line(line: &[u8]) -> HeaderLine
+    ensures end { line.now ≡ [] → result ≡ End }
+    ensures length { (n : ℕ) → n < 2 ^ 64 → line.now ≡ length_field n → result ≡ Length n }
+{
     if line.is_empty() {
         return HeaderLine::End;
     }
@@ -50,8 +35,8 @@ pub(crate) fn header_line(line: &[u8]) -> HeaderLine {
     if !name.eq_ignore_ascii_case("Content-Length") {
         return HeaderLine::Other;
     }
-    match number(value.trim().as_bytes()) {
-        Some(length) => HeaderLine::Length(length),
-        None => HeaderLine::Invalid,
+    match value.trim().parse() {
+        Ok(length) => HeaderLine::Length(length),
+        Err(_) => HeaderLine::Invalid,
     }
 }

@@ -8,12 +8,12 @@ use pattern_files::sources::System;
 use patterns_config::choices::Choices;
 use patterns_text::error::{RunError, give_up};
 use std::alloc::{AllocError, Global};
-use std::io::{BufRead, Write};
+use std::io::{Read, Write};
 
 /// Answers the messages of a client until it ends the session or goes away, and returns the exit status: 0 if it asked for
 /// the end, 1 if it went away or its messages cannot be told apart, and 3 if memory runs out between messages or a write
 /// fails.
-pub fn serve<S: System, R: BufRead, W: Write, E: Write>(
+pub fn serve<S: System, R: Read, W: Write, E: Write>(
     alloc: Global,
     choices: Choices<'_>,
     system: &S,
