@@ -84,20 +84,28 @@ impl KnownPatterns {
         }
     }
 
-    /// Takes the next one that is the pattern of the entry, if one is near.
-    pub(crate) fn take(&mut self, entry: Entry<'_>) -> Result<Option<KnownPattern>, AllocError> {
-        let context = context_of(self.alloc, entry)?;
-        let left = self
-            .patterns
-            .iter_mut()
-            .skip(self.passed)
-            .take(MAX_PASSED);
-        for (passed, known) in left.enumerate() {
-            if known.is_of(entry.pattern, context.as_str()) {
-                self.passed = self.passed.saturating_add(passed).saturating_add(1);
-                return Ok(Some(mem::replace(known, KnownPattern::none(self.alloc))));
+    /// The index of the next one that is this pattern in this context, if it is near.
+    fn find(&self, pattern: &str, context: &str) -> Option<usize> {
+        let left = self.patterns.get(self.passed..)?;
+        for (passed, known) in left.iter().take(MAX_PASSED).enumerate() {
+            if known.is_of(pattern, context) {
+                return Some(self.passed.saturating_add(passed));
             }
         }
-        Ok(None)
+        None
+    }
+
+    /// Takes the next one that is the pattern of the entry, if it is near.
+    pub(crate) fn take(&mut self, entry: Entry<'_>) -> Result<Option<KnownPattern>, AllocError> {
+        let context = context_of(self.alloc, entry)?;
+        let Some(index) = self.find(entry.pattern, context.as_str()) else {
+            return Ok(None);
+        };
+        self.passed = index.saturating_add(1);
+        let none = KnownPattern::none(self.alloc);
+        Ok(self
+            .patterns
+            .get_mut(index)
+            .map(|known| mem::replace(known, none)))
     }
 }
