@@ -32,7 +32,8 @@ def played(program: str, sent: bytes, env: dict) -> Session:
     """What comes of messages."""
     with tempfile.TemporaryDirectory() as folder, tempfile.TemporaryFile() as refused:
         command = ["bash", "-c", f'exec 9<&{refused.fileno()}; exec "$0" server', program]
-        got = subprocess.run(command, cwd=folder, input=sent, env={**os.environ, **env}, pass_fds=[refused.fileno()], capture_output=True, check=False)
+        own = {**os.environ, **env}
+        got = subprocess.run(command, cwd=folder, input=sent, env=own, pass_fds=[refused.fileno()], capture_output=True, check=False)
         stream, messages = BytesIO(got.stdout), []
         while (one := message(stream)) is not None:
             messages.append(json.loads(one))

@@ -1,7 +1,7 @@
 //! Messages between headers, on streams of bytes.
-ghost use Rattle.std.specs.Prelude.{OnOk, IfOk, IfSome, [], ◌∷◌};
+ghost use Rattle.std.specs.Prelude.{◌≡◌, ℕ, ◌<◌, ◌^◌, List, [], ◌∷◌, ◌++◌, length, Some, OnOk, IfOk, IfSome, IsTrue};
 ghost use Rattle.std.specs.Io.KnownBytes.{Appends, Consumes};
-ghost use Rattle.json_rpc.specs.Header.{frame};
+ghost use Rattle.json_rpc.specs.Header.{header, frame, IsLineRead};
 
 use crate::header::{HeaderLine, header_line};
 use std::alloc::{AllocError, Global};
@@ -66,43 +66,45 @@ fn read_byte<R: Read>(reader: &mut R) -> Result<Option<u8>, FrameError>
     }
 }
 
-/// Reads a line of a header into the buffer, in the place of what it held: what is before its CR LF; None if the stream ends
-/// before the line.
-fn read_line<'b, R: Read>(
-    reader: &mut R,
-    buffer: &'b mut Vec<u8>,
-) -> Result<Option<&'b [u8]>, FrameError> {
-    buffer.clear();
+/// Reads a line of a header: what is before its CR LF. Returns whether there is one: not if the stream ends before it.
+fn read_line<R: Read>(reader: &mut R, line: &mut Vec<u8>) -> Result<bool, FrameError>
+    ensures { IfOk result (λ is_read. IsTrue is_read →
+        IsLineRead (R.remaining reader.old) (R.remaining reader.new) line.new.items) }
+{
+    line.clear();
     for _ in 0..MAX_LINE {
         let Some(byte) = read_byte(reader)? else {
-            if buffer.is_empty() {
-                return Ok(None);
+            if line.is_empty() {
+                return Ok(false);
             }
             return Err(FrameError::Ended);
         };
-        buffer.push(byte)?;
         if byte == b'\n' {
-            break;
+            if line.pop() == Some(b'\r') {
+                return Ok(true);
+            }
+            return Err(FrameError::Header);
         }
+        line.extend_from_slice(&[byte])?;
     }
-    match buffer.strip_suffix(b"\r\n") {
-        Some(line) => Ok(Some(line)),
-        None => Err(FrameError::Header),
-    }
+    Err(FrameError::Header)
 }
 
 /// Reads a header: how many bytes the message has; None if the stream ends before it.
-fn read_header<R: Read>(alloc: Global, reader: &mut R) -> Result<Option<usize>, FrameError> {
-    let mut buffer = Vec::new(alloc);
+fn read_header<R: Read>(alloc: Global, reader: &mut R) -> Result<Option<usize>, FrameError>
+    ensures { IfOk result (λ read. IfSome read (λ n. (m : ℕ) (rest : List ℕ) → m < 2 ^ 64
+        → R.remaining reader.old ≡ Some (header m ++ rest) → (n ≡ m) × (R.remaining reader.new ≡ Some rest))) }
+{
+    let mut line = Vec::new(alloc);
     let mut length = None;
     for number in 0..MAX_LINES {
-        let Some(line) = read_line(reader, &mut buffer)? else {
+        if !read_line(reader, &mut line)? {
             if number == 0 {
                 return Ok(None);
             }
             return Err(FrameError::Ended);
-        };
-        match header_line(line) {
+        }
+        match header_line(&line) {
             HeaderLine::End => {
                 return length.map(Some).ok_or(FrameError::NoLength);
             }
@@ -118,7 +120,11 @@ fn read_header<R: Read>(alloc: Global, reader: &mut R) -> Result<Option<usize>, 
 pub fn read_message<R: Read>(
     alloc: Global,
     reader: &mut R,
-) -> Result<Option<Vec<u8>>, FrameError> {
+) -> Result<Option<Vec<u8>>, FrameError>
+    ensures { IfOk result (λ read. IfSome read (λ v. (message rest : List ℕ) → length message < 2 ^ 64
+        → R.remaining reader.old ≡ Some (frame message ++ rest)
+        → (v.items ≡ message) × (R.remaining reader.new ≡ Some rest))) }
+{
     let Some(length) = read_header(alloc, reader)? else {
         return Ok(None);
     };
