@@ -125,17 +125,19 @@ module _ (s a r : List ℕ) (c : ℕ) (u : IsUtf8 s) (v : IsUtf8 a) (w : IsUtf8 
   one_is e = subst (λ t. t ≡ drop (length s - length t) s) (same_bytes a r v w e) (after_is s a c u v is)
 
   pub line_is : r ≡ drop (length s - length r) s
-  line_is = elim line_end_is c (chars a) (chars r) ends next [
-      inl e ↦ one_is e |
-      inr e ↦ both_is s a r u v w (returns e.0) e.1 ]
+  line_is = elim (line_end_is c (chars a) (chars r) ends next) [
+    | inl e ↦ one_is e
+    | inr e ↦ both_is s a r u v w (returns e.0) e.1
+  ]
 
   one_near : chars a ≡ chars r → (n : ℕ) → IsCut s n → n + length r < length s → n ≡ 0
   one_near e n cut below = first_cut s a c u v is n cut.0 (subst (λ t. n + length t < length s) (sym (same_bytes a r v w e)) below)
 
   pub line_near : (n : ℕ) → IsCut s n → n + length r < length s → n ≡ 0
-  line_near n cut below = elim line_end_is c (chars a) (chars r) ends next [
-      inl e ↦ one_near e n cut below |
-      inr e ↦ both_near s a r u v w (returns e.0) e.1 n cut below ]
+  line_near n cut below = elim (line_end_is c (chars a) (chars r) ends next) [
+    | inl e ↦ one_near e n cut below
+    | inr e ↦ both_near s a r u v w (returns e.0) e.1 n cut below
+  ]
 
 -- ---- a cursor further on
 

@@ -117,10 +117,7 @@ fn read_header<R: Read>(alloc: Global, reader: &mut R) -> Result<Option<usize>, 
 }
 
 /// Reads a message with its header, and returns the message; None if the stream ends before it.
-pub fn read_message<R: Read>(
-    alloc: Global,
-    reader: &mut R,
-) -> Result<Option<Vec<u8>>, FrameError>
+pub fn read_message<R: Read>(alloc: Global, reader: &mut R) -> Result<Option<Vec<u8>>, FrameError>
     ensures { IfOk result (λ read. IfSome read (λ v. (message rest : List ℕ) → length message < 2 ^ 64
         → R.remaining reader.old ≡ Some (frame message ++ rest)
         → (v.items ≡ message) × (R.remaining reader.new ≡ Some rest))) }

@@ -175,7 +175,9 @@ impl Visitor for ReportWalk<'_> {
         self.write(located, &known.reports)?;
         self.new.push(known)?;
         if self.count >= MAX_REPORTS {
-            let message = format!(in self.given.alloc; "no more than {MAX_REPORTS} reports are shown")?;
+            let message = format!(in self.given.alloc;
+                "no more than {MAX_REPORTS} reports are shown"
+            )?;
             write_notice(
                 &mut self.writer,
                 located.start(),

@@ -103,9 +103,10 @@ impl KnownPatterns {
         };
         self.passed = index.saturating_add(1);
         let none = KnownPattern::none(self.alloc);
-        Ok(self
-            .patterns
-            .get_mut(index)
-            .map(|known| mem::replace(known, none)))
+        Ok(
+            self.patterns
+                .get_mut(index)
+                .map(|known| mem::replace(known, none)),
+        )
     }
 }
