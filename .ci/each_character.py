@@ -14,6 +14,8 @@ LETTERS = fancy._LETTERS
 BLANKS = "\t\n\r "
 # what has no children, and may hold parts that no node has: an empty branch, and `(?~|)`
 HOLDERS = "Empty", "Absent"
+# comments that are in the text of a leaf, in a part or in the own text of a node
+INNER = fancy.TriviumKind.INNER_COMMENT, fancy.TriviumKind.INNER_LINE_COMMENT
 PARTS = [
     "a", "b", "é", " ", "#", "\n", "|", "|", "(", "(", "(?:", "(?i:", "(?<n>", "(?=", "(?>", "(?~", "(?(1)", "(?(", ")", ")", ")",
     "(?i)", "(?x)", "(?-x)", "(?#c)", "(?#\\))", "# c\n", "*", "+?", "{1,2}", "{ 1 (?#d) }", "??", "\\d", "\\#", "\\x{ 41 }", "\\1", "\\g<n>",
@@ -31,7 +33,7 @@ def left(pattern, flags):
         around[slice(*node.span)] = [node.kind] * (node.span[1] - node.span[0])
     leaves = [node.span for node in nodes if not node.children and node.kind not in HOLDERS]
     taken = [False] * len(pattern)
-    for start, end in leaves + [it.span for it in tree.trivia()]:
+    for start, end in leaves + [it.span for it in tree.trivia() if it.kind not in INNER]:
         if any(taken[start:end]):
             return None
         taken[start:end] = [True] * (end - start)

@@ -20,8 +20,9 @@ static const formatted_by_hand wanted_texts[] = {
     {"(?i)a(?i)b(?s-m:c)", U, KEPT, 0, "(?i)ab(?s:c)"},
     // comments, of which one that is empty goes
     {"a(?#)b(?# one)", U, KEPT, 0, "ab(?# one)"},
-    // blanks within a line, at its end, and before a comment through its end
-    {"a  b \n (?:c){1,}   # one", UX, KEPT, 0, "a b\n c+   # one"},
+    // blanks within a line and several lines, at the end of one, and before a comment through its end
+    {"a  b ", UX, KEPT, 0, "a b"},
+    {"a  b \n (?:c){1,}   # one", UX, KEPT, 0, "a  b\n c+   # one"},
     // a line that fits, and others
     {"a|b", U, VERBOSE, 80, "a|b"},
     {"a  b", UX, VERBOSE, 80, "a b"},
@@ -67,7 +68,9 @@ static char *comments_of(const char *pattern, size_t length, uint32_t flags, siz
     fancy_trivia(pattern, length, flags, trivia, FANCY_MAX_TRIVIA(length), &count);
     for (size_t i = 0; i < count; i++) {
         size_t bytes = trivia[i].stop - trivia[i].start;
-        bool is_comment = trivia[i].kind == FANCY_TRIVIUM_LINE_COMMENT || (trivia[i].kind == FANCY_TRIVIUM_COMMENT && bytes > 4);
+        bool is_line = trivia[i].kind == FANCY_TRIVIUM_LINE_COMMENT || trivia[i].kind == FANCY_TRIVIUM_INNER_LINE_COMMENT;
+        bool is_block = trivia[i].kind == FANCY_TRIVIUM_COMMENT || trivia[i].kind == FANCY_TRIVIUM_INNER_COMMENT;
+        bool is_comment = is_line || (is_block && bytes > 4);
         if (!is_comment) continue;
         memcpy(comments + *size, pattern + trivia[i].start, bytes);
         *size += bytes;

@@ -11,6 +11,7 @@
 #include "format.h"
 #include "all.h"
 #include "engine.h"
+#include "facts.h"
 
 static size_t left_until_refusal; // 0: none is refused
 static bool was_refused;
@@ -175,6 +176,13 @@ static fancy_result last_ranges(const tree *t, uint32_t flags, fancy_range *rang
     return fancy_node_ranges(last, t->texts, t->info.texts_size, flags, ranges, capacity, NULL);
 }
 
+// Writes facts to two halves of a buffer.
+static fancy_result facts_in(const char *pattern, size_t length, uint32_t flags, char *text, size_t capacity) {
+    size_t half = capacity / 2 / sizeof(fancy_node_facts) * sizeof(fancy_node_facts);
+    return fancy_facts(pattern, length, flags, (fancy_node_facts *)(void *)text, half / sizeof(fancy_node_facts), text + half, capacity - half,
+                       NULL);
+}
+
 // Makes the call of a number, of those that take rows, write a tree at once, write what no node has, format, or allocate; and those for
 // engines.
 static fancy_result call_with_rows(int which, const tree *t, const char *pattern, size_t length, uint32_t flags, char *text) {
@@ -188,6 +196,7 @@ static fancy_result call_with_rows(int which, const tree *t, const char *pattern
     if (which == 8) return fancy_is_resolved(pattern, length, flags);
     if (which == 9) return fancy_class_ranges(pattern, length, flags, (fancy_range *)(void *)text, capacity / sizeof(fancy_range), NULL);
     if (which == 10) return last_ranges(t, flags, (fancy_range *)(void *)text, capacity / sizeof(fancy_range));
+    if (which == 11) return facts_in(pattern, length, flags, text, capacity);
     return fancy_format(pattern, length, flags, which == 4 ? FANCY_STYLE_KEPT : FANCY_STYLE_VERBOSE, 80, text, capacity);
 }
 
@@ -198,7 +207,7 @@ static bool are_rows_refused_memory(const char *pattern, size_t length, uint32_t
     take(&t, pattern, length, flags);
     char *text = untouched(CAPACITY(length)), *wanted = untouched(CAPACITY(length));
     bool is_right = true;
-    for (int which = t.nodes ? 0 : 2; which < 11; which++) {
+    for (int which = t.nodes ? 0 : 2; which < 12; which++) {
         memset(wanted, 0xA5, CAPACITY(length));
         fancy_result usual = call_with_rows(which, &t, pattern, length, flags, wanted);
         for (size_t n = 1; is_right; n++) {
@@ -230,7 +239,7 @@ static bool is_line_right(char **fields, bool refuses) {
     bool is_right = is_answered(pattern, length, flags, fields) && is_short_said(pattern, length, flags) &&
                     are_spans_right(pattern, length, flags) && are_rows_right(pattern, length, flags) &&
                     are_trivia_right(pattern, length, flags) && are_formatted_right(pattern, length, flags) &&
-                    is_all_right(pattern, length, flags) && are_engine_calls_right(pattern, length, flags) &&
+                    is_all_right(pattern, length, flags) && are_engine_calls_right(pattern, length, flags) && are_facts_right(pattern, length, flags) &&
                     (!refuses || are_rows_refused_memory(pattern, length, flags));
     for (size_t n = 1; refuses && is_right; n++) {
         left_until_refusal = n;
@@ -379,7 +388,10 @@ static bool is_need_set(void) {
     fancy_result trivia = fancy_trivia("(?i)a(?#b)", 10, 0, NULL, 0, &count);
     is_right = is_right && trivia.status == FANCY_STATUS_BUFFER_TOO_SHORT && trivia.size == 0 && count == 2;
     fancy_result ranges = fancy_class_ranges("[a-cx-zA]", 9, 0, NULL, 0, &count);
-    return is_right && ranges.status == FANCY_STATUS_BUFFER_TOO_SHORT && ranges.size == 0 && count == 3;
+    is_right = is_right && ranges.status == FANCY_STATUS_BUFFER_TOO_SHORT && ranges.size == 0 && count == 3;
+    fancy_pattern_facts whole = {0, 0, false, false, false};
+    fancy_result facts = fancy_facts("ab+", 3, 0, NULL, 0, NULL, 0, &whole);
+    return is_right && facts.status == FANCY_STATUS_BUFFER_TOO_SHORT && facts.size == 0 && whole.node_count == 4 && whole.prefix_size == 2;
 }
 
 // All that a call may write.
@@ -391,10 +403,12 @@ typedef struct {
     fancy_info info;
     fancy_trivium trivia[3];
     fancy_range ranges[3];
+    fancy_node_facts facts[3];
+    fancy_pattern_facts whole;
     size_t count;
 } written;
 
-enum { CALLS = 14, CALLS_WITH_SPANS = 12 };
+enum { CALLS = 15, CALLS_WITH_SPANS = 13 };
 
 static fancy_result write_all(const char *pattern, size_t length, uint32_t flags, written *to) {
     fancy_buffers all = {to->nodes, 3, to->texts, sizeof to->texts, to->names, 3, to->backrefs, 3, to->trivia, 3, to->info, to->count};
@@ -423,7 +437,8 @@ static fancy_result call_with_flags(int which, const char *pattern, uint32_t fla
     case 9: return fancy_is_resolved(pattern, length, flags);
     case 10: return fancy_class_ranges(pattern, length, flags, to->ranges, 3, &to->count);
     case 11: return fancy_node_ranges(&literal, pattern, length, flags, to->ranges, 3, &to->count);
-    case 12: return fancy_parse(pattern, length, flags, to->nodes, 3, to->texts, size, to->names, 3, to->backrefs, 3, &to->info);
+    case 12: return fancy_facts(pattern, length, flags, to->facts, 3, to->texts, size, &to->whole);
+    case 13: return fancy_parse(pattern, length, flags, to->nodes, 3, to->texts, size, to->names, 3, to->backrefs, 3, &to->info);
     default: return fancy_tree(pattern, length, flags, to->nodes, 3, to->texts, size, to->names, 3, to->backrefs, 3, &to->info);
     }
 }
@@ -489,7 +504,7 @@ static bool is_rest_right(void) {
                     info.node_count == 1 && node.kind == FANCY_NODE_EMPTY && node.start == 0 && node.stop == 0 && node.end == 1;
     is_right = is_right && are_rows_by_hand_right() && are_trivia_by_hand_right() && are_formatted_by_hand_right();
     is_right = is_right && are_unknown_precedences_refused() && is_need_set() && are_unknown_flags_refused() && are_spans_left_out();
-    is_right = is_right && is_all_by_hand_right() && are_engine_calls_by_hand_right() && are_old_names_right();
+    is_right = is_right && is_all_by_hand_right() && are_engine_calls_by_hand_right() && are_facts_by_hand_right() && are_old_names_right();
     for (uint32_t kind = 0; kind < 300; kind++) {
         fancy_result got = fancy_error_text(kind, text, sizeof text);
         is_right = is_right && got.size == strlen(fancy_kind_message(kind)) && memcmp(text, fancy_kind_message(kind), got.size) == 0;

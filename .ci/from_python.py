@@ -365,10 +365,12 @@ def is_refused_by_trivia(pattern):
 def are_trivia_right():
     none = (None, None)
     return (
-        trivia("") == trivia(b"ab") == trivia("[(?#)]") == trivia("a{1(?#c),2}") == trivia("\\#", fancy.IGNORE_SPACE) == []
+        trivia("") == trivia(b"ab") == trivia("[(?#)]") == trivia("\\#", fancy.IGNORE_SPACE) == []
         and trivia("é(?#é)*") == [("COMMENT", (1, 6), (2, 8), *none)]
         and trivia("é(?#é)*".encode()) == [("COMMENT", (2, 8), (2, 8), *none)]
         and trivia("a*(?#b)c") == [("COMMENT", (2, 7), (2, 7), *none)]
+        and trivia("é{1(?#c)}") == [("INNER_COMMENT", (3, 8), (4, 9), *none)]
+        and trivia("((?#é)a)") == [("INNER_COMMENT", (1, 6), (1, 7), *none)]
         and trivia("(a(?i)b)c") == [("INLINE_FLAGS", (2, 6), (2, 6), "u", "iu")]
         and trivia("(?i:a)b") == [("OPENING", (0, 4), (0, 4), "u", "iu"), ("CLOSING", (5, 6), (5, 6), *none)]
         and trivia("(a)(?<n>b)", fancy.UNICODE | fancy.IGNORE_NUMBERED_GROUPS_WHEN_NAMED_GROUPS_EXIST) == [
@@ -406,7 +408,8 @@ def is_kept_by_a_style(pattern, flags):
 
 def comments_of(pattern, flags, style):
     """The comments that are not empty, for the style `COMPACT` without their delimiters and whitespace at their ends."""
-    kinds = fancy.TriviumKind.COMMENT, fancy.TriviumKind.LINE_COMMENT
+    kind = fancy.TriviumKind
+    kinds = kind.COMMENT, kind.LINE_COMMENT, kind.INNER_COMMENT, kind.INNER_LINE_COMMENT
     texts = [pattern[slice(*it.span)] for it in fancy.trivia(pattern, flags) if it.kind in kinds]
     if style == fancy.Style.COMPACT:
         return [it for it in ((text[3:-1] if text[0] == "(" else text[1:]).rstrip() for text in texts) if it]
@@ -426,7 +429,7 @@ def are_formatted_right():
     return (
         fancy.format("(?:\\x41){0,1}(?# é)", style=style.KEPT) == "\\x41?(?# é)"
         and fancy.format("(?:\\x41){0,1}(?# é)".encode(), style=style.KEPT) == "\\x41?(?# é)"
-        and fancy.format("a  b \n (?:c){1,}   # one", verbose, style.KEPT) == "a b\n c+   # one"
+        and fancy.format("a  b \n (?:c){1,}   # one", verbose, style.KEPT) == "a  b\n c+   # one"
         and fancy.format("(abcd|ef)g", style=style.VERBOSE) == "(abcd|ef)g"
         and fancy.format("(abcd|ef)g", style=style.VERBOSE, width=8) == "(?x)\n(\n    abcd\n  | ef\n)\ng"
         and fancy.format("(abcd|ef)g", style=style.VERBOSE, width=2**64) == "(abcd|ef)g"
@@ -484,6 +487,46 @@ def are_ranges_right():
     )
 
 
+def are_facts_right():
+    """What is known of matches: of each node its lengths in characters and bytes, and by letters whether it can be empty, its length is
+    constant, and it is anchored at the start and the end (f)."""
+    one, at_start = (1, 1, 1, 1, "c"), (0, 0, 0, 0, "ecs")
+    wanted = {
+        "": ("", True, True, [(0, 0, 0, 0, "ec")]),
+        "a|bc": ("", False, True, [(1, 2, 1, 2, ""), one, (2, 2, 2, 2, "c"), one, one]),
+        "ab|ac": ("a", False, True, [(2, 2, 2, 2, "c"), (2, 2, 2, 2, "c"), one, one, (2, 2, 2, 2, "c"), one, one]),
+        "é{2,}": ("é", False, True, [(2, None, 4, None, ""), (1, 1, 2, 2, "c")]),
+        "a😀": ("a😀", True, True, [(2, 2, 5, 5, "c"), one, (1, 1, 4, 4, "c")]),
+        # k, K and the Kelvin sign, of three bytes, are one letter
+        "(?i)k": ("", False, True, [(1, 1, 1, 3, "c")]),
+        ".?": ("", False, True, [(0, 1, 0, 4, "e"), (1, 1, 1, 4, "c")]),
+        "^a$": ("a", True, True, [(1, 1, 1, 1, "csf"), at_start, one, (0, 0, 0, 0, "ecf")]),
+        "^|a": ("", False, True, [(0, 1, 0, 1, "e"), at_start, one]),
+        "(^)?": ("", False, True, [(0, 0, 0, 0, "ec"), at_start, at_start]),
+        "(?<=a|b*)d": ("d", True, False, [one, (0, 0, 0, 0, "ec"), (0, None, 0, None, "e"), one, (0, None, 0, None, "e"), one, one]),
+        "(?:a{4294967296}){4294967296}": ("a", False, True, [(2**64 - 1, None, 2**64 - 1, None, ""), (2**32, 2**32, 2**32, 2**32, "c"), one]),
+        r"(a)\1": (None, False, False, [None, one, one, None]),
+        "a++": (None, False, False, [None, (1, None, 1, None, ""), one]),
+    }  # fmt: skip
+    return (
+        all(listed(fancy.facts(pattern)) == it == listed(fancy.facts(pattern.encode())) for pattern, it in wanted.items())
+        and fancy.facts("[0-9]", fancy.Flag(0)) == fancy.facts("[0-9]")
+        and not fancy.facts("^a", fancy.UNICODE | fancy.MULTI).nodes[0].is_anchored_at_start
+        # more nodes than bytes
+        and len(fancy.facts("|" * 5000).nodes) == len(list(fancy.parse("|" * 5000).walk()))
+        and fancy.facts("é" * 5000).prefix == "é" * 5000
+        and raises(fancy.Error, lambda: fancy.facts("a("))
+        and raises(fancy.Error, lambda: fancy.facts(b"\xff"))
+    )
+
+
+def listed(facts):
+    """The facts of a pattern, with those of each node as a tuple."""
+    nodes = [it and dataclasses.astuple(it) for it in facts.nodes]
+    rows = [it and (*it[:4], "".join(letter for letter, holds in zip("ecsf", it[4:]) if holds)) for it in nodes]
+    return facts.prefix, facts.is_prefix_whole, facts.is_easy, rows
+
+
 def is_class_of_re(text, flags=0):
     """Whether a class has the characters that Python's engine finds, among the first."""
     codes, matches = range(0x3000), re.compile(text, flags).fullmatch
@@ -532,6 +575,7 @@ def are_flags_looked_at():
     tree = fancy.parse("a")
     calls = [
         fancy.parse, fancy.check, fancy.trivia, fancy.to_pattern, fancy.normal_form, fancy.escape, fancy.is_resolved, fancy.class_ranges,
+        fancy.facts,
         lambda pattern, flags: fancy.format(pattern, flags, fancy.Style.KEPT),
         lambda pattern, flags: fancy.parse(pattern).root.character_ranges(flags),
         lambda pattern, flags: dataclasses.replace(tree, flags=flags).to_pattern(),
@@ -688,10 +732,10 @@ def are_null_pointers_taken():
         call.fancy_to_pattern_nodes(*none, *none, 0, *none, None, 0, *none), call.fancy_trivia(*none, 0, *none, None),
         call.fancy_format(*none, 0, fancy.Style.KEPT, 0, *none), call.fancy_is_resolved(*none, 0), call.fancy_escape(*none, 0, *none),
         call.fancy_parse_id(*none), call.fancy_parse_decimal(*none, None), call.fancy_class_ranges(*none, 0, *none, None),
-        call.fancy_node_ranges(ctypes.byref(fancy._Node(kind=2)), *none, 32, *none, None),
+        call.fancy_node_ranges(ctypes.byref(fancy._Node(kind=2)), *none, 32, *none, None), call.fancy_facts(*none, 0, *none, *none, None),
     ]  # fmt: skip
     call.fancy_group_name.restype = ctypes.c_size_t
-    return [it.status for it in got] == [0, 0, 0, 0, 4, 4, 7, 7, 0, 0, 0, 0, 0, 0, 12, 4] and call.fancy_group_name(None, 0, 1) == 0
+    return [it.status for it in got] == [0, 0, 0, 0, 4, 4, 7, 7, 0, 0, 0, 0, 0, 0, 12, 4, 4] and call.fancy_group_name(None, 0, 1) == 0
 
 
 def is_command_right():
@@ -734,6 +778,7 @@ def main():
         "formatted patterns": are_formatted_right(),
         "calls for engines": are_engine_calls_right(),
         "characters": are_ranges_right(),
+        "facts": are_facts_right(),
         "old names": are_old_names_right(),
         "flags": are_flags_looked_at(),
         "numbers in a tree": are_numbers_looked_at(),

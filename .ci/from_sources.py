@@ -195,6 +195,8 @@ def record(file, line, column, pattern, flags, lists):
     found = {"file": file, "line": line, "column": column, "pattern": pattern}
     if flags is not None:
         found["flags"] = flags
+    if file.endswith(".py"):
+        found["dialect"] = "python"
     found.update(lists or {})
     if "literals" in found:
         found["syntax"] = SYNTAXES[os.path.splitext(file)[1]]

@@ -155,6 +155,13 @@ fancy_result fancy_node_ranges_nonnull(const fancy_node *node, const char *texts
     return result(NEW);
 }
 
+fancy_result fancy_facts_nonnull(const char *pattern, size_t length, uint32_t flags, fancy_node_facts *nodes, size_t node_capacity,
+                                 char *prefix, size_t prefix_capacity, fancy_pattern_facts *whole) {
+    (void)flags, (void)nodes, (void)node_capacity, (void)prefix, (void)prefix_capacity;
+    memset(whole, 0, sizeof *whole);
+    return text(pattern, length);
+}
+
 fancy_result fancy_parse_id_nonnull(const char *words, size_t length) { return text(words, length); }
 
 fancy_result fancy_parse_decimal_nonnull(const char *words, size_t length, size_t *value) {

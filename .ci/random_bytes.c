@@ -8,18 +8,8 @@
 #include "format.h"
 #include "all.h"
 #include "engine.h"
-
-static uint64_t state;
-
-// xorshift64*
-static uint64_t draw(void) {
-    state ^= state >> 12;
-    state ^= state << 25;
-    state ^= state >> 27;
-    return state * 2685821657736338717u;
-}
-
-static size_t below(size_t bound) { return (size_t)((draw() >> 32) % bound); }
+#include "draw.h"
+#include "facts.h"
 
 static const char *const pieces[] = {
     "(", ")", "(?:", "(?i)", "(?<n>", "(?'n'", "(?P<m>", "(?>", "(?=", "(?!", "(?<=", "(?<!", "(?~", "(?~|", "(?(1)", "(?(<n>)",
@@ -86,6 +76,7 @@ static bool is_refused_by_all(const char *pattern, size_t length, uint32_t flags
            is_not_utf8(fancy_trivia(pattern, length, flags, NULL, 0, NULL), position) &&
            is_not_utf8(fancy_format(pattern, length, flags, FANCY_STYLE_KEPT, 0, NULL, 0), position) &&
            is_not_utf8(fancy_print(pattern, length, flags, 0, NULL, 0), position) &&
+           is_not_utf8(fancy_facts(pattern, length, flags, NULL, 0, NULL, 0, NULL), position) &&
            is_not_utf8(fancy_to_pattern(pattern, length, flags, NULL, 0), position) && are_engine_calls_right(pattern, length, flags);
 }
 
@@ -128,8 +119,7 @@ static void write_record(FILE *file, const char *pattern, size_t length, uint32_
 
 int main(int argument_count, char **arguments) {
     if (argument_count != 4) return 2;
-    // far apart, also for seeds that follow one another
-    state = (strtoull(arguments[1], NULL, 10) + 1) * 11400714819323198485u;
+    seed(arguments[1]);
     size_t count = strtoull(arguments[2], NULL, 10), refused = 0, wrong = 0;
     FILE *file = fopen(arguments[3], "w");
     if (!file) return 2;
@@ -148,7 +138,7 @@ int main(int argument_count, char **arguments) {
         if (i % 16 == 0 && prefix == length)
             is_right = is_right && are_rows_right(pattern, length, flags) && are_trivia_right(pattern, length, flags) &&
                        are_formatted_right(pattern, length, flags) && is_all_right(pattern, length, flags) &&
-                       are_engine_calls_right(pattern, length, flags);
+                       are_engine_calls_right(pattern, length, flags) && are_facts_right(pattern, length, flags);
         free(pattern);
         if (is_right) continue;
         wrong++;

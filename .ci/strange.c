@@ -146,6 +146,20 @@ fancy_result fancy_node_ranges_nonnull(const fancy_node *node, const char *texts
     return ranges_of(texts_size, ranges, capacity, count);
 }
 
+/* Facts of any nodes, and a prefix that may be no text. */
+fancy_result fancy_facts_nonnull(const char *pattern, size_t length, uint32_t flags, fancy_node_facts *nodes, size_t node_capacity,
+                                 char *prefix, size_t prefix_capacity, fancy_pattern_facts *whole) {
+    (void)pattern, (void)flags;
+    write_noise(whole, sizeof *whole);
+    write_noise(nodes, node_capacity * sizeof *nodes);
+    memset(prefix, 'a', prefix_capacity);
+    if (below(4) == 0) write_noise(prefix, prefix_capacity);
+    whole->node_count = below(8) ? below(node_capacity + 1) : number(node_capacity);
+    whole->prefix_size = below(8) ? below(prefix_capacity + 1) : number(prefix_capacity);
+    if (below(8) == 0) return result(FANCY_STATUS_BUFFER_TOO_SHORT, 0, 0, 0);
+    return below(4) ? result(FANCY_STATUS_OK, 0, 0, 0) : any_result(length);
+}
+
 fancy_result fancy_parse_id_nonnull(const char *words, size_t length) {
     (void)words;
     return below(2) ? result(FANCY_STATUS_OK, 0, 0, below(length + 1)) : any_result(length);

@@ -31,10 +31,16 @@ static const trivia_by_hand wanted_trivia[] = {
     // line comments, the last at the end of the pattern
     {"(?x)a # b\nc #", U, 3, {{0, 4, FANCY_TRIVIUM_INLINE_FLAGS, U, UX}, {6, 10, FANCY_TRIVIUM_LINE_COMMENT, 0, 0},
                               {12, 13, FANCY_TRIVIUM_LINE_COMMENT, 0, 0}}},
-    // no comments: a character after a backslash, characters of a class, a part of a quantifier
+    // no comments: a character after a backslash, characters of a class
     {"a\\#b", UX, 0, {{0, 0, 0, 0, 0}}},
     {"[(?#)]", U, 0, {{0, 0, 0, 0, 0}}},
-    {"a{1(?#c),2}", U, 0, {{0, 0, 0, 0, 0}}},
+    // in a token: the counts of a quantifier, the opening of a group, which may be a part itself, and a hex code in a class
+    {"a{1(?#c),2}", U, 1, {{3, 8, FANCY_TRIVIUM_INNER_COMMENT, 0, 0}}},
+    {"a{1 #c\n,2}", UX, 1, {{4, 7, FANCY_TRIVIUM_INNER_LINE_COMMENT, 0, 0}}},
+    {"((?#b)(?#c)a)", U, 2, {{1, 6, FANCY_TRIVIUM_INNER_COMMENT, 0, 0}, {6, 11, FANCY_TRIVIUM_INNER_COMMENT, 0, 0}}},
+    {"((?#c)?:a)", U, 3, {{0, 8, FANCY_TRIVIUM_OPENING, U, U}, {1, 6, FANCY_TRIVIUM_INNER_COMMENT, 0, 0},
+                          {9, 10, FANCY_TRIVIUM_CLOSING, 0, 0}}},
+    {"[a\\x(?#c){61}]", U, 1, {{4, 9, FANCY_TRIVIUM_INNER_COMMENT, 0, 0}}},
     // a character of two bytes, and a flag that is set
     {"\xc3\xa9(?#\xc3\xa9)", U, 1, {{2, 8, FANCY_TRIVIUM_COMMENT, 0, 0}}},
     {"(?s)", U, 1, {{0, 4, FANCY_TRIVIUM_INLINE_FLAGS, U, U | FANCY_FLAG_DOTNL}}},
@@ -82,8 +88,10 @@ static bool is_text_of_kind(const fancy_trivium *it, const char *pattern, size_t
     bool has_no_flags = it->flags_before == 0 && it->flags_after == 0, are_flags = (it->flags_before | it->flags_after) < 512;
     switch (it->kind) {
     case FANCY_TRIVIUM_COMMENT:
+    case FANCY_TRIVIUM_INNER_COMMENT:
         return has_no_flags && it->stop - it->start >= 4 && memcmp(pattern + it->start, "(?#", 3) == 0 && last == ')';
-    case FANCY_TRIVIUM_LINE_COMMENT: return has_no_flags && first == '#' && (last == '\n' || it->stop == length);
+    case FANCY_TRIVIUM_LINE_COMMENT:
+    case FANCY_TRIVIUM_INNER_LINE_COMMENT: return has_no_flags && first == '#' && (last == '\n' || it->stop == length);
     case FANCY_TRIVIUM_INLINE_FLAGS: return are_flags && first == '(' && last == ')';
     // that of a group without a name is its parenthesis, with the comments and the ignored whitespace after it
     case FANCY_TRIVIUM_OPENING:
@@ -94,14 +102,25 @@ static bool is_text_of_kind(const fancy_trivium *it, const char *pattern, size_t
     }
 }
 
-// Whether they follow one another, and each closing parenthesis has its opening before it.
+static bool is_inner(const fancy_trivium *it) {
+    return it->kind == FANCY_TRIVIUM_INNER_COMMENT || it->kind == FANCY_TRIVIUM_INNER_LINE_COMMENT;
+}
+
+// Whether they follow one another, and each closing parenthesis has its opening before it. A comment inside a token may be in the
+// part before it.
 static bool are_in_order(const fancy_trivium *trivia, size_t count, const char *pattern, size_t length) {
-    size_t end = 0, open = 0;
+    size_t start = 0, end = 0, open = 0;
     for (size_t i = 0; i < count; i++) {
         const fancy_trivium *it = &trivia[i];
-        if (it->start < end || it->stop <= it->start || it->stop > length || !is_text_of_kind(it, pattern, length)) return false;
+        if (it->stop <= it->start || it->stop > length || !is_text_of_kind(it, pattern, length)) return false;
+        if (is_inner(it) && it->start > start && it->stop <= end) {
+            start = it->stop - 1;
+            continue;
+        }
+        if (it->start < end) return false;
         if (it->kind == FANCY_TRIVIUM_CLOSING && open-- == 0) return false;
         open += it->kind == FANCY_TRIVIUM_OPENING;
+        start = it->start;
         end = it->stop;
     }
     return open == 0;

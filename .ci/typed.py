@@ -52,12 +52,14 @@ def looked_at() -> None:
     written: Tuple[str, str, str] = fancy.to_pattern("a"), fancy.escape("a"), fancy.parse_id("a-")
     decimal: Optional[Tuple[int, int]] = fancy.parse_decimal("12")
     ranges: List[Optional[List[Tuple[int, int]]]] = [fancy.class_ranges("[a]"), tree.root.character_ranges()]
+    facts: fancy.PatternFacts = fancy.facts("a")
+    most: List[Optional[int]] = [it.max_length if it else None for it in facts.nodes]
     number: int = tree.root  # type: ignore[assignment]
     name: str = tree.root.children[0].span  # type: ignore[assignment]
     first: str = next(records("a.py", b""), {"pattern": ""})["pattern"]
     assert (names, span, text, formatted, first) == ({"n": (1,)}, (0, 8), "(?<n>a)b", "a", "") and error and flags
     assert number and name and (named, resolved, written, decimal) == ("n", True, ("a", "a", "a"), (2, 12))
-    assert ranges == [[(97, 97)], None]
+    assert ranges == [[(97, 97)], None] and most == [1]
 
 
 PATTERNS = {

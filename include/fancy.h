@@ -60,7 +60,7 @@ enum fancy_status {
     FANCY_STATUS_NOT_UTF8 = 2,            /* position is the length of the valid UTF-8 prefix */
     FANCY_STATUS_OUT_OF_MEMORY = 3,       /* the pattern may be valid or not */
     FANCY_STATUS_BUFFER_TOO_SHORT = 4,    /* no buffer was written; what is needed is set: for a text the size, for a tree
-                                             *info, for trivia and ranges *count */
+                                             *info, for trivia and ranges *count, for facts *whole */
     FANCY_STATUS_NOT_PRINTABLE = 5,       /* of fancy_print and fancy_print_nodes: there is a tree, and it is not printable */
     FANCY_STATUS_NO_PATTERN = 6,          /* of fancy_to_pattern_nodes: what is written for the tree does not parse
                                              back as it */
@@ -162,13 +162,17 @@ enum fancy_target { FANCY_TARGET_BY_NUMBER = 1, FANCY_TARGET_BY_NAME = 2, FANCY_
 
 /* Kinds of what no node of a tree has. */
 enum fancy_trivium_kind {
-    FANCY_TRIVIUM_COMMENT = 1,      /* (?#..) */
-    FANCY_TRIVIUM_LINE_COMMENT = 2, /* from # through its line feed, or through the end of the pattern */
-    FANCY_TRIVIUM_INLINE_FLAGS = 3, /* inline flags, as (?i): flags_before, flags_after */
-    FANCY_TRIVIUM_OPENING = 4,      /* of a flag group, as (?: or (?i: : flags_before, flags_after */
-    FANCY_TRIVIUM_CLOSING = 5,      /* the closing parenthesis of such a group */
-    FANCY_TRIVIUM_DROPPED = 6       /* what leaves nothing in the tree: counts or operators of a quantifier without effect in
-                                       Oniguruma mode; of a conditional without branches, as (?(1)|), all but the condition */
+    FANCY_TRIVIUM_COMMENT = 1,           /* (?#..) */
+    FANCY_TRIVIUM_LINE_COMMENT = 2,      /* from # through its line feed, or through the end of the pattern */
+    FANCY_TRIVIUM_INLINE_FLAGS = 3,      /* inline flags, as (?i): flags_before, flags_after */
+    FANCY_TRIVIUM_OPENING = 4,           /* of a flag group, as (?: or (?i: : flags_before, flags_after */
+    FANCY_TRIVIUM_CLOSING = 5,           /* the closing parenthesis of such a group */
+    FANCY_TRIVIUM_DROPPED = 6,           /* what leaves nothing in the tree: counts or operators of a quantifier without effect
+                                            in Oniguruma mode; of a conditional without branches, as (?(1)|), all but the
+                                            condition */
+    FANCY_TRIVIUM_INNER_COMMENT = 7,     /* a comment inside a token, as in ((?#c)a) or a{2(?#c)}; if the token is a row of this
+                                            array, after that row and inside it */
+    FANCY_TRIVIUM_INNER_LINE_COMMENT = 8 /* the same, from # through its line feed */
 };
 
 /* What a printed text is to be: a whole pattern or the inside of a group, a branch of an alternation, a part of a
@@ -195,8 +199,8 @@ struct fancy_result {
     uint32_t status; /* FANCY_STATUS_.. */
     uint32_t kind;   /* FANCY_ERROR_.., FANCY_ERROR_NONE if no error is reported */
     size_t position; /* of the error, at most the length of the pattern + 1; or the length of the valid UTF-8 prefix; else 0 */
-    size_t size;     /* of the text that was to be written, whether or not it fitted; else 0, also for a tree, trivia and
-                        ranges */
+    size_t size;     /* of the text that was to be written, whether or not it fitted; else 0, also for a tree, trivia, ranges
+                        and facts */
 };
 
 /* A node of a tree. What its kind does not use is 0 or false, and text is 0 if text_size is 0. */
@@ -264,11 +268,36 @@ struct fancy_range {
     uint32_t first; /* the code of the first */
     uint32_t last;  /* the code of the last */
 };
+
+/* What is known of the matches of a node. If nothing is, all is 0 or false. */
+typedef struct fancy_node_facts fancy_node_facts;
+struct fancy_node_facts {
+    size_t min_length;         /* a match has at least so many characters, or more if it is SIZE_MAX */
+    size_t max_length;         /* at most so many characters, SIZE_MAX for no limit */
+    size_t min_bytes;          /* at least so many bytes of UTF-8, or more if it is SIZE_MAX */
+    size_t max_bytes;          /* at most so many bytes, SIZE_MAX for no limit */
+    bool is_known;             /* it is known what the node matches */
+    bool can_be_empty;         /* min_length is 0; if not, no match is empty */
+    bool is_constant_length;   /* all matches have min_length characters */
+    bool is_anchored_at_start; /* an assertion says that each match starts where the text does */
+    bool is_anchored_at_end;   /* an assertion says that each match ends where the text does */
+};
+
+/* What is known of the matches of a whole pattern. */
+typedef struct fancy_pattern_facts fancy_pattern_facts;
+struct fancy_pattern_facts {
+    size_t node_count;    /* at most FANCY_MAX_NODES */
+    size_t prefix_size;   /* of the text that each match begins with, in bytes; 0 if it is not known */
+    bool has_prefix;      /* that text is known */
+    bool is_prefix_whole; /* each match is that text, and no more */
+    bool is_easy;         /* fancy-regex can hand the pattern to an engine that never backtracks: it has no reference,
+                             look-around, atomic group or the like */
+};
 /* ---- end of numbers and structs */
 
 /* Capacities that suffice for a pattern of this length in bytes, so that one call of fancy_parse or fancy_tree is enough. This
  * is proved for trees, whose texts have at most 6 * length bytes. FANCY_MAX_TEXTS also suffices for the message that fancy_tree
- * writes, which is tested. That FANCY_MAX_TRIVIA suffices for fancy_trivia is tested too: each trivium has a byte of its own.
+ * writes, which is tested. That FANCY_MAX_TRIVIA suffices for fancy_trivia is tested too: each trivium begins at a byte of its own.
  * FANCY_MAX_NAMES(0) is 0. */
 #define FANCY_MAX_NODES(length) (2 * (size_t)(length) + 1)
 #define FANCY_MAX_TEXTS(length) (6 * (size_t)(length) + 128)
@@ -328,6 +357,8 @@ fancy_result fancy_class_ranges_nonnull(const char *text, size_t length, uint32_
                                         size_t *count);
 fancy_result fancy_node_ranges_nonnull(const fancy_node *node, const char *texts, size_t texts_size, uint32_t flags,
                                        fancy_range *ranges, size_t capacity, size_t *count);
+fancy_result fancy_facts_nonnull(const char *pattern, size_t length, uint32_t flags, fancy_node_facts *nodes, size_t node_capacity,
+                                 char *prefix, size_t prefix_capacity, fancy_pattern_facts *whole);
 fancy_result fancy_parse_id_nonnull(const char *text, size_t length);
 fancy_result fancy_parse_decimal_nonnull(const char *text, size_t length, size_t *value);
 
@@ -519,6 +550,21 @@ FANCY_INLINE fancy_result fancy_node_ranges(const fancy_node *node, const char *
     size_t no_count;
     return fancy_node_ranges_nonnull(node, texts ? texts : "", texts_size, flags, ranges ? ranges : &no_range,
                                      ranges ? capacity : 0, count ? count : &no_count);
+}
+
+/* Parses a pattern, and finds what is known of its matches, and of those of each node: how long they are, whether they lie at the
+ * start or the end of the text, and what they begin with. Sets *whole if it returns OK or BUFFER_TOO_SHORT, unless whole is null.
+ * Returns OK if everything fits; then nodes holds the facts of the nodes in the order of fancy_parse, and prefix the text that each
+ * match of the pattern begins with: at most length bytes, which is tested. Returns BUFFER_TOO_SHORT if a buffer is too short, and
+ * neither is written. Otherwise it returns what fancy_check returns. Nothing is known of a back reference, a condition, a call, an
+ * atomic group, a possessive quantifier, an absent form, a verb, bytes, \R, \K, \G and what contains one of them. */
+FANCY_INLINE fancy_result fancy_facts(const char *pattern, size_t length, uint32_t flags, fancy_node_facts *nodes,
+                                      size_t node_capacity, char *prefix, size_t prefix_capacity, fancy_pattern_facts *whole) {
+    fancy_node_facts no_node;
+    char none;
+    fancy_pattern_facts no_whole;
+    return fancy_facts_nonnull(pattern ? pattern : "", length, flags, nodes ? nodes : &no_node, nodes ? node_capacity : 0,
+                               prefix ? prefix : &none, prefix ? prefix_capacity : 0, whole ? whole : &no_whole);
 }
 
 /* Reads the id that a text begins with, as for a template of a replacement: all letters and numbers, in any script, and _ at the

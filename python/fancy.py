@@ -46,8 +46,8 @@ from dataclasses import dataclass, field
 from typing import Callable, ClassVar, Deque, Dict, Iterator, List, Mapping, Optional, Sequence, Tuple, Type, TypeVar, Union
 
 __all__ = [
-    "Error", "Node", "Pattern", "Ranges", "Relative", "Span", "Tree", "Trivium", "check", "class_ranges", "escape", "format",
-    "is_resolved", "normal_form", "parse", "parse_decimal", "parse_id", "to_pattern", "trivia",
+    "Error", "Node", "NodeFacts", "Pattern", "PatternFacts", "Ranges", "Relative", "Span", "Tree", "Trivium", "check", "class_ranges",
+    "escape", "facts", "format", "is_resolved", "normal_form", "parse", "parse_decimal", "parse_id", "to_pattern", "trivia",
 ]  # fmt: skip
 
 Pattern = Union[str, bytes]
@@ -183,6 +183,8 @@ class TriviumKind(enum.IntEnum):
     OPENING = 4  #: the opening of a flag group, as `(?:` or `(?i:`
     CLOSING = 5  #: the closing parenthesis of such a group
     DROPPED = 6  #: what leaves nothing in the tree, as `(?(` and `)|)` in `(?(1)|)`
+    INNER_COMMENT = 7  #: a comment inside a token, as in `((?#c)a)` or `a{2(?#c)}`; if the token is a `Trivium`, after that and inside it
+    INNER_LINE_COMMENT = 8  #: the same, from `#` through its line feed
 
 
 class Precedence(enum.IntEnum):
@@ -562,6 +564,31 @@ class Trivium:
 
 
 @dataclass(frozen=True)
+class NodeFacts:
+    """What is known of the matches of a node. `2**64 - 1` as a least number stands for more too."""
+
+    min_length: int  #: a match has at least so many characters
+    max_length: Optional[int]  #: a match has at most so many characters; None for no limit
+    min_bytes: int  #: a match has at least so many bytes of UTF-8
+    max_bytes: Optional[int]  #: a match has at most so many bytes of UTF-8; None for no limit
+    can_be_empty: bool  #: `min_length` is 0; if not, no match is empty
+    is_constant_length: bool  #: all matches have `min_length` characters
+    is_anchored_at_start: bool  #: an assertion says that each match starts where the text does
+    is_anchored_at_end: bool  #: an assertion says that each match ends where the text does
+
+
+@dataclass(frozen=True)
+class PatternFacts:
+    """What is known of the matches of a pattern."""
+
+    nodes: Tuple[Optional[NodeFacts], ...]  #: of each node, in the order of `Tree.walk`; None: it is not known what the node matches
+    prefix: Optional[str]  #: the text that each match begins with; None if it is not known
+    is_prefix_whole: bool  #: each match is that text, and no more
+    #: fancy-regex can hand the pattern to an engine that never backtracks: it has no reference, look-around, atomic group or the like
+    is_easy: bool
+
+
+@dataclass(frozen=True)
 class Tree:
     """The tree of a pattern, with its group information."""
 
@@ -743,6 +770,44 @@ class _Range(ctypes.Structure):
     ]
 
 
+class _NodeFacts(ctypes.Structure):
+    min_length: int
+    max_length: int
+    min_bytes: int
+    max_bytes: int
+    is_known: bool
+    can_be_empty: bool
+    is_constant_length: bool
+    is_anchored_at_start: bool
+    is_anchored_at_end: bool
+    _fields_ = [
+        ("min_length", ctypes.c_size_t),
+        ("max_length", ctypes.c_size_t),
+        ("min_bytes", ctypes.c_size_t),
+        ("max_bytes", ctypes.c_size_t),
+        ("is_known", ctypes.c_bool),
+        ("can_be_empty", ctypes.c_bool),
+        ("is_constant_length", ctypes.c_bool),
+        ("is_anchored_at_start", ctypes.c_bool),
+        ("is_anchored_at_end", ctypes.c_bool),
+    ]
+
+
+class _PatternFacts(ctypes.Structure):
+    node_count: int
+    prefix_size: int
+    has_prefix: bool
+    is_prefix_whole: bool
+    is_easy: bool
+    _fields_ = [
+        ("node_count", ctypes.c_size_t),
+        ("prefix_size", ctypes.c_size_t),
+        ("has_prefix", ctypes.c_bool),
+        ("is_prefix_whole", ctypes.c_bool),
+        ("is_easy", ctypes.c_bool),
+    ]
+
+
 _OK = 0
 _REFUSED = 1
 _NOT_UTF8 = 2
@@ -842,6 +907,7 @@ def _load() -> ctypes.CDLL:
         "fancy_escape": pattern + buffer,
         "fancy_class_ranges": pattern + buffer + [ctypes.POINTER(ctypes.c_size_t)],
         "fancy_node_ranges": [ctypes.c_void_p] + buffer + [ctypes.c_uint32] + buffer + [ctypes.POINTER(ctypes.c_size_t)],
+        "fancy_facts": pattern + 2 * buffer + [ctypes.POINTER(_PatternFacts)],
         "fancy_parse_id": pattern[:2],
         "fancy_parse_decimal": pattern[:2] + [ctypes.POINTER(ctypes.c_size_t)],
     }.items():
@@ -1110,6 +1176,7 @@ _REFERENCE = _reader(_Node, "group", "level", "casei", "has_level").unpack_from
 _CALL = _reader(_Node, "which", "text", "text_size", "group", "level", "position").unpack_from
 _NAME = _reader(_Name, "text", "text_size", "group")
 _TRIVIUM = _reader(_Trivium, "start", "stop", "kind", "flags_before", "flags_after")
+_FACTS = _reader(_NodeFacts, *(it[0] for it in _NodeFacts._fields_))
 
 
 class _Builder:
@@ -1375,6 +1442,43 @@ def trivia(pattern: Pattern, flags: int = UNICODE) -> Tuple[Trivium, ...]:
     if status != _OK:
         raise source.refusal() or AssertionError
     return tuple([source.trivium(*row) for row in _TRIVIUM.iter_unpack(rows)])
+
+
+def _node_facts(
+    min_length: int, max_length: int, min_bytes: int, max_bytes: int, is_known: bool, *others: bool
+) -> Optional[NodeFacts]:
+    """The facts of a row, if it has some."""
+    most, most_bytes = (None if it == _UNBOUNDED else it for it in (max_length, max_bytes))
+    return NodeFacts(min_length, most, min_bytes, most_bytes, *others) if is_known else None
+
+
+def facts(pattern: Pattern, flags: int = UNICODE) -> PatternFacts:
+    """Returns what is known of the matches of a pattern, and of those of each node. Nothing is known of a back reference, a condition, a
+    call, an atomic group, a possessive quantifier, an absent form, a verb, bytes, `\\R`, `\\K`, `\\G` and what contains one of them.
+    Raises `Error` if the pattern is invalid.
+
+    >>> found = facts("^ab(c|é*)")
+    >>> found.nodes[0].min_length, found.nodes[0].max_length, found.nodes[0].is_anchored_at_start
+    (2, None, True)
+    >>> found.prefix, found.is_prefix_whole, found.is_easy
+    ('ab', False, True)
+    """
+    source, whole = _Source(pattern, flags), _PatternFacts()
+    # enough for nearly all patterns
+    count, size = len(source.bytes) + len(source.bytes) // 3 + 2, len(source.bytes)
+    while True:
+        rows, prefix = (_NodeFacts * count)(), ctypes.create_string_buffer(size)
+        got: _Result = _library.fancy_facts(*source.arguments, rows, count, prefix, size, whole)
+        if got.status != _BUFFER_TOO_SHORT:
+            break
+        count, size = whole.node_count, whole.prefix_size
+    if got.status == _OUT_OF_MEMORY:
+        raise MemoryError
+    if got.status != _OK:
+        raise source.refusal() or AssertionError
+    nodes = [_node_facts(*row) for row in _FACTS.iter_unpack(bytes(memoryview(rows)[: whole.node_count]))]
+    text = prefix.raw[: whole.prefix_size].decode() if whole.has_prefix else None
+    return PatternFacts(tuple(nodes), text, whole.is_prefix_whole, whole.is_easy)
 
 
 def check(pattern: Pattern, flags: int = UNICODE) -> Optional[Error]:

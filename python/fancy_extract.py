@@ -32,7 +32,7 @@ import tokenize
 import unicodedata
 import warnings
 import xml.parsers.expat
-from dataclasses import dataclass
+from dataclasses import dataclass, replace
 from typing import Any, Callable, Dict, Iterator, List, Optional, Sequence, Set, Tuple
 
 __all__ = ["GRAMMAR_KEYS", "ExtractError", "main", "records"]
@@ -102,6 +102,7 @@ class Found:
     flags: Optional[str] = None  #: the letters of its flags, or "-"; None if they are not known
     syntax: Optional[str] = None  #: what its literals are written in; None if they are not known
     literals: Sequence[Tuple[int, int]] = ()  #: the indexes at which each of them begins and ends
+    dialect: Optional[str] = None  #: the dialect that it is written in; None if it is not known
 
     def record(self, file: str, source: Source) -> Dict[str, Any]:
         """The record of the pattern."""
@@ -109,6 +110,8 @@ class Found:
         record: Dict[str, Any] = {"file": file, "line": line, "column": column, "pattern": self.pattern}
         if self.flags is not None:
             record["flags"] = self.flags
+        if self.dialect is not None:
+            record["dialect"] = self.dialect
         if self.indexes is not None:
             positions = [source.position(index) for index in self.indexes]
             if any(position[0] != line for position in positions):
@@ -217,8 +220,8 @@ def _python_string(source: str, at: int, text: _Text) -> Tuple[int, int]:
     return at, at + len(quote)
 
 
-def _python_literal(source: Source, node: ast.Constant, flags: Optional[str]) -> Found:
-    """The pattern of a string literal, which may have several parts."""
+def _string_literal(source: Source, node: ast.Constant, flags: Optional[str]) -> Found:
+    """The text of a string literal, which may have several parts."""
     at = source.index(node.lineno, node.col_offset)
     end = source.index(node.end_lineno or node.lineno, node.end_col_offset or 0)
     value = node.value if isinstance(node.value, str) else node.value.decode("ascii")
@@ -233,6 +236,11 @@ def _python_literal(source: Source, node: ast.Constant, flags: Optional[str]) ->
     except (ValueError, KeyError, IndexError):
         return Found(value, start, flags=flags)
     return text.found(value, start, stop, flags, "python", literals)
+
+
+def _python_literal(source: Source, node: ast.Constant, flags: Optional[str]) -> Found:
+    """The pattern of a string literal, which is one of Python's."""
+    return replace(_string_literal(source, node, flags), dialect="python")
 
 
 class _Names:

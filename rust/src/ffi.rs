@@ -2,7 +2,7 @@
 //! names end in `_nonnull`: they take no null pointer, and neither a slice nor a vector has one.
 
 use crate::{call::RowsIn, numbers};
-pub(crate) use crate::structs::{CallResult, Info, Name, Node, Range, Trivium};
+pub(crate) use crate::structs::{CallResult, Info, Name, Node, NodeFacts, PatternFacts, Range, Trivium};
 use core::ffi::c_char;
 
 extern "C" {
@@ -10,9 +10,8 @@ extern "C" {
     fn fancy_message_nonnull(pattern: *const c_char, length: usize, flags: u32, buffer: *mut c_char, capacity: usize) -> CallResult;
     #[cfg(test)]
     fn fancy_error_text_nonnull(kind: u32, buffer: *mut c_char, capacity: usize) -> CallResult;
-    fn fancy_tree_nonnull(pattern: *const c_char, length: usize, flags: u32, nodes: *mut Node, node_capacity: usize,
-        texts: *mut c_char, texts_capacity: usize, names: *mut Name, name_capacity: usize,
-        backrefs: *mut usize, backref_capacity: usize, info: *mut Info) -> CallResult;
+    fn fancy_tree_nonnull(pattern: *const c_char, length: usize, flags: u32, nodes: *mut Node, node_capacity: usize, texts: *mut c_char,
+        texts_capacity: usize, names: *mut Name, name_capacity: usize, backrefs: *mut usize, backref_capacity: usize, info: *mut Info) -> CallResult;
     fn fancy_print_nonnull(pattern: *const c_char, length: usize, flags: u32, precedence: u32, buffer: *mut c_char, capacity: usize) -> CallResult;
     fn fancy_to_pattern_nonnull(pattern: *const c_char, length: usize, flags: u32, buffer: *mut c_char, capacity: usize) -> CallResult;
     fn fancy_format_nonnull(pattern: *const c_char, length: usize, flags: u32, style: u32, width: usize, buffer: *mut c_char, capacity: usize) -> CallResult;
@@ -25,14 +24,15 @@ extern "C" {
     fn fancy_escape_nonnull(text: *const c_char, length: usize, flags: u32, buffer: *mut c_char, capacity: usize) -> CallResult;
     fn fancy_class_ranges_nonnull(text: *const c_char, length: usize, flags: u32, ranges: *mut Range, capacity: usize, count: *mut usize) -> CallResult;
     fn fancy_node_ranges_nonnull(node: *const Node, texts: *const c_char, texts_size: usize, flags: u32, ranges: *mut Range, capacity: usize, count: *mut usize) -> CallResult;
+    fn fancy_facts_nonnull(pattern: *const c_char, length: usize, flags: u32, nodes: *mut NodeFacts, node_capacity: usize,
+        prefix: *mut c_char, prefix_capacity: usize, whole: *mut PatternFacts) -> CallResult;
     fn fancy_parse_id_nonnull(text: *const c_char, length: usize) -> CallResult;
     fn fancy_parse_decimal_nonnull(text: *const c_char, length: usize, value: *mut usize) -> CallResult;
 }
 
-// All that `docs/c.md` asks of a caller about pointers is asked of each call below: none is null, each is aligned, each points
-// to as many items as the length or capacity beside it says, no two buffers overlap, and nobody else uses a buffer meanwhile.
-// Slices and distinct mutable borrows have all of this. What a call reads is initialized. What it writes need not be: mostly it
-// is the capacity of a vector, which then has the length that was written, by the clause in parentheses (`docs/c.md`).
+// All that `docs/c.md` asks of a caller about pointers is asked of each call: none is null, each is aligned and points to as many items as the number
+// beside it says, no two buffers overlap, and nobody else uses a buffer meanwhile. Slices and distinct mutable borrows have this. What is read is
+// initialized. What is written need not be: mostly it is the capacity of a vector, whose length is then set, by the clause in parentheses (`docs/c.md`).
 
 /// Makes a vector as long as what was written to it; empty if it has not the capacity for that.
 unsafe fn set_written<T>(buffer: &mut Vec<T>, count: usize) {
@@ -64,15 +64,12 @@ pub(crate) fn error_text(kind: u32, buffer: &mut [u8]) -> CallResult {
     unsafe { fancy_error_text_nonnull(kind, buffer.as_mut_ptr().cast(), buffer.len()) }
 }
 
-pub(crate) fn tree(pattern: &str, flags: u32, nodes: &mut Vec<Node>, texts: &mut Vec<u8>, names: &mut Vec<Name>,
-    backrefs: &mut Vec<usize>, info: &mut Info) -> CallResult {
-    // SAFETY: the pattern is a slice; the four buffers and `info` are distinct mutable borrows; the structs are laid out as
-    // those of `fancy.h`, and all fields are integers; with OK a tree of the sizes in `info` is written (`read`), with REFUSED
-    // a message of `size` bytes (`refused`)
+pub(crate) fn tree(pattern: &str, flags: u32, nodes: &mut Vec<Node>, texts: &mut Vec<u8>, names: &mut Vec<Name>, backrefs: &mut Vec<usize>, info: &mut Info) -> CallResult {
+    // SAFETY: the pattern is a slice; the four buffers and `info` are distinct mutable borrows; the structs are laid out as those of `fancy.h`, and all
+    // fields are integers; with OK a tree of the sizes in `info` is written (`read`), with REFUSED a message of `size` bytes (`refused`)
     unsafe {
-        let result = fancy_tree_nonnull(pattern.as_ptr().cast(), pattern.len(), flags, nodes.as_mut_ptr(), nodes.capacity(),
-            texts.as_mut_ptr().cast(), texts.capacity(), names.as_mut_ptr(), names.capacity(),
-            backrefs.as_mut_ptr(), backrefs.capacity(), info);
+        let result = fancy_tree_nonnull(pattern.as_ptr().cast(), pattern.len(), flags, nodes.as_mut_ptr(), nodes.capacity(), texts.as_mut_ptr().cast(),
+            texts.capacity(), names.as_mut_ptr(), names.capacity(), backrefs.as_mut_ptr(), backrefs.capacity(), info);
         let sizes = if result.status == numbers::STATUS_OK { *info } else { Info::default() };
         set_written(nodes, sizes.node_count);
         set_written(texts, if result.status == numbers::STATUS_REFUSED { result.size } else { sizes.texts_size });
@@ -108,12 +105,10 @@ pub(crate) fn trivia(pattern: &str, flags: u32, trivia: &mut Vec<Trivium>, count
 
 pub(crate) fn print_nodes(RowsIn { nodes, texts, index }: RowsIn<'_>, precedence: u32, buffer: &mut Vec<u8>) -> CallResult {
     // SAFETY: these are slices, and the buffer is a mutable borrow; with OK the text is written (`read`)
-    unsafe { text(buffer, |to, capacity| fancy_print_nodes_nonnull(nodes.as_ptr(), nodes.len(), texts.as_ptr().cast(), texts.len(),
-        index, precedence, to, capacity)) }
+    unsafe { text(buffer, |to, capacity| fancy_print_nodes_nonnull(nodes.as_ptr(), nodes.len(), texts.as_ptr().cast(), texts.len(), index, precedence, to, capacity)) }
 }
 
-pub(crate) fn to_pattern_nodes(RowsIn { nodes, texts, index }: RowsIn<'_>, names: &[Name], info: &Info, flags: u32,
-    buffer: &mut Vec<u8>) -> CallResult {
+pub(crate) fn to_pattern_nodes(RowsIn { nodes, texts, index }: RowsIn<'_>, names: &[Name], info: &Info, flags: u32, buffer: &mut Vec<u8>) -> CallResult {
     // SAFETY: these and the names are slices, `info` is a borrow, and the buffer a mutable one; with OK the text is written (`read`)
     unsafe { text(buffer, |to, capacity| fancy_to_pattern_nodes_nonnull(nodes.as_ptr(), nodes.len(), texts.as_ptr().cast(), texts.len(),
         index, names.as_ptr(), names.len(), info, flags, to, capacity)) }
@@ -137,6 +132,11 @@ pub(crate) fn class_ranges(text: &str, flags: u32, ranges: &mut [Range], count: 
 pub(crate) fn node_ranges(node: &Node, texts: &[u8], flags: u32, ranges: &mut [Range], count: &mut usize) -> CallResult {
     // SAFETY: the same, and the node is a borrow, in which each bool is 0 or 1
     unsafe { fancy_node_ranges_nonnull(node, texts.as_ptr().cast(), texts.len(), flags, ranges.as_mut_ptr(), ranges.len(), count) }
+}
+
+pub(crate) fn facts(pattern: &str, flags: u32, nodes: &mut [NodeFacts], prefix: &mut [u8], whole: &mut PatternFacts) -> CallResult {
+    // SAFETY: the pattern and the buffers are slices; the buffers and `whole`, whose fields are integers, are distinct mutable borrows
+    unsafe { fancy_facts_nonnull(pattern.as_ptr().cast(), pattern.len(), flags, nodes.as_mut_ptr(), nodes.len(), prefix.as_mut_ptr().cast(), prefix.len(), whole) }
 }
 
 pub(crate) fn parse_id(text: &str) -> CallResult {

@@ -29,6 +29,7 @@
 //!   groups, a text as a pattern, and what a template of a replacement begins with.
 //! - [`class_ranges`] returns the characters that a class matches; [`Expr::character_ranges`] and [`NodeRef::character_ranges`] do
 //!   this for a node.
+//! - [`facts()`] returns what is known of a pattern's matches and of those of each node: lengths, anchors, a prefix.
 //!
 //! Positions and spans are byte offsets. The functions may be called in several threads at once. What the library returns is
 //! checked. A library that is too old for the crate is an error ([`Error::Version`]), and so are a number of a newer library that
@@ -44,6 +45,7 @@ mod compact;
 mod engine;
 mod error;
 mod expr;
+mod facts;
 #[allow(unsafe_code)]
 #[rustfmt::skip]
 mod ffi;
@@ -67,6 +69,7 @@ pub use compact::CompactTree;
 pub use engine::{escape, is_resolved, parse_decimal, parse_id};
 pub use error::Error;
 pub use expr::{Absent, AstNode, CaptureGroupTarget, Expr, ExprChildrenIter, ExprChildrenIterMut, Walk};
+pub use facts::{facts, NodeFacts, PatternFacts};
 pub use flags::Flags;
 pub use format::{format_pattern, Style};
 pub use kinds::{AbsentKind, Assertion, BacktrackingControlVerb, LookAround, ParseError};

@@ -108,6 +108,8 @@ pub(crate) const TRIVIUM_INLINE_FLAGS: u32 = 3;
 pub(crate) const TRIVIUM_OPENING: u32 = 4;
 pub(crate) const TRIVIUM_CLOSING: u32 = 5;
 pub(crate) const TRIVIUM_DROPPED: u32 = 6;
+pub(crate) const TRIVIUM_INNER_COMMENT: u32 = 7;
+pub(crate) const TRIVIUM_INNER_LINE_COMMENT: u32 = 8;
 
 pub(crate) const PRECEDENCE_WHOLE: u32 = 0;
 pub(crate) const PRECEDENCE_BRANCH: u32 = 1;
@@ -128,7 +130,7 @@ pub(crate) const LAST_LOOK: u32 = 4;
 pub(crate) const LAST_VERB: u32 = 5;
 pub(crate) const LAST_ABSENT: u32 = 4;
 pub(crate) const LAST_TARGET: u32 = 3;
-pub(crate) const LAST_TRIVIUM: u32 = 6;
+pub(crate) const LAST_TRIVIUM: u32 = 8;
 pub(crate) const LAST_PRECEDENCE: u32 = 3;
 pub(crate) const LAST_STYLE: u32 = 2;
 

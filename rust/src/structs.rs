@@ -80,3 +80,29 @@ pub(crate) struct Range {
     pub first: u32,
     pub last: u32,
 }
+
+/// `fancy_node_facts`
+#[repr(C)]
+#[derive(Debug, Clone, Copy, Default)]
+pub(crate) struct NodeFacts {
+    pub min_length: usize,
+    pub max_length: usize,
+    pub min_bytes: usize,
+    pub max_bytes: usize,
+    pub is_known: u8,
+    pub can_be_empty: u8,
+    pub is_constant_length: u8,
+    pub is_anchored_at_start: u8,
+    pub is_anchored_at_end: u8,
+}
+
+/// `fancy_pattern_facts`
+#[repr(C)]
+#[derive(Debug, Clone, Copy, Default)]
+pub(crate) struct PatternFacts {
+    pub node_count: usize,
+    pub prefix_size: usize,
+    pub has_prefix: u8,
+    pub is_prefix_whole: u8,
+    pub is_easy: u8,
+}

@@ -41,11 +41,17 @@ pub enum TriviumKind {
     /// mode, or a part of a conditional without branches, such as `(?(` and `)|)` in `(?(1)|)`, where only the condition is
     /// left.
     Dropped,
+    /// A comment inside a token: `(?#..)` after the parenthesis of a group, between the letters of flags, in the braces of a
+    /// quantifier, in a hex code or in a word boundary. If the token is a `Trivium`, this comes after that one, and its span lies in
+    /// that one's.
+    InnerComment,
+    /// The same, from `#` through the end of its line.
+    InnerLineComment,
 }
 
 /// Parses a pattern under flags, and returns what no node of its tree has, in the order of the pattern: comments, inline
 /// flags, the parentheses of flag groups such as `(?:a)` and `(?i:a)`, and what leaves nothing in the tree. A comment inside a
-/// token, such as one in the braces of a quantifier, is part of the token, and ignored whitespace is left out.
+/// token, such as one in the braces of a quantifier, is of a kind of its own, and ignored whitespace is left out.
 ///
 /// # Errors
 ///
@@ -65,7 +71,7 @@ pub fn trivia(pattern: &str, flags: Flags) -> Result<Vec<Trivium>, Error> {
     guessed(&mut rows, most_usual(pattern));
     let mut result = ffi::trivia(pattern, flags.bits(), &mut rows, &mut count);
     if result.status == numbers::STATUS_BUFFER_TOO_SHORT {
-        // each trivium has a byte of its own
+        // each trivium begins at a byte of its own
         if count > pattern.len() {
             return Err(Error::Library("more trivia than bytes"));
         }
@@ -103,6 +109,8 @@ fn checked_trivium(row: &Row, pattern: &str) -> Result<Trivium, Error> {
         numbers::TRIVIUM_OPENING => TriviumKind::Opening { around: before, inside: after },
         numbers::TRIVIUM_CLOSING => TriviumKind::Closing,
         numbers::TRIVIUM_DROPPED => TriviumKind::Dropped,
+        numbers::TRIVIUM_INNER_COMMENT => TriviumKind::InnerComment,
+        numbers::TRIVIUM_INNER_LINE_COMMENT => TriviumKind::InnerLineComment,
         kind => return Err(Error::unknown("a kind of trivium", kind)),
     };
     Ok(Trivium { span, kind })

@@ -21,7 +21,7 @@ fn texts_by_hand() {
         ("(?i)a(?i)b(?s-m:c)", U, Style::Kept, "(?i)ab(?s:c)"),
         ("a(?#)b(?# one)", U, Style::Kept, "ab(?# one)"),
         // blanks within a line, at its end, and before a comment through its end
-        ("a  b \n (?:c){1,}   # one", verbose, Style::Kept, "a b\n c+   # one"),
+        ("a  b \n (?:c){1,}   # one", verbose, Style::Kept, "a  b\n c+   # one"),
         // a line that fits, and others
         ("a|b", U, WIDE, "a|b"),
         ("a  b", verbose, WIDE, "a b"),

@@ -1,7 +1,7 @@
 //! How much memory is asked for, by what Linux says of the process. So there is one test here, and no other at the same time. It
 //! runs itself again, in 24 MB of address space.
 
-use fancy_syntax::{check, format_pattern, is_resolved, parse, parse_without_spans, print, to_pattern, trivia};
+use fancy_syntax::{check, facts, format_pattern, is_resolved, parse, parse_without_spans, print, to_pattern, trivia};
 use fancy_syntax::{CompactTree, Error, Flags, Precedence, Rows, Style};
 use std::process::Command;
 
@@ -44,6 +44,8 @@ fn greatest_increase(pattern: &str) -> Result<usize, Error> {
     look("trivia");
     is_resolved(pattern, flags)?;
     look("is_resolved");
+    drop(facts(pattern, flags)?);
+    look("facts");
     drop(to_pattern(pattern, flags)?);
     drop(print(pattern, flags, Precedence::Whole)?);
     look("texts");

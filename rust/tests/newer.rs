@@ -2,7 +2,8 @@
 //! libfancy. Where `FANCY_NEWER` is set, `.ci/newer.c` is linked, and 1000 is the number; with libfancy there is nothing to see here.
 
 use fancy_syntax::{
-    check, class_ranges, escape, format_pattern, is_resolved, parse, parse_decimal, parse_id, print, to_pattern, trivia,
+    check, class_ranges, escape, facts, format_pattern, is_resolved, parse, parse_decimal, parse_id, print, to_pattern,
+    trivia,
 };
 use fancy_syntax::{CompactTree, Error, Expr, Flags, GroupInfo, ParseError, Precedence, Rows, Style};
 
@@ -49,6 +50,7 @@ fn a_number_that_is_new_is_unknown() {
     assert_eq!(is_resolved("status", U), unknown("a status"));
     assert_eq!(escape("status", U), unknown("a status"));
     assert_eq!(class_ranges("status", U), unknown("a status"));
+    assert_eq!(facts("status", U), unknown("a status"));
     assert_eq!(Expr::Any { newline: true, crlf: false }.character_ranges(U), unknown("a status"));
     assert_eq!(parse_id("status"), unknown("a status"));
     assert_eq!(parse_decimal("status"), unknown("a status"));

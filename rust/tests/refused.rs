@@ -1,7 +1,7 @@
 //! What a failed allocation of the library does: the call returns an error that says so, and the next call has the result of any other. With
 //! libfancy no allocation fails here; where `FANCY_REFUSES` is set, it is linked with `.ci/refusing.c`.
 
-use fancy_syntax::{check, class_ranges, escape, format_pattern, is_resolved, parse, print, to_pattern, trivia};
+use fancy_syntax::{check, class_ranges, escape, facts, format_pattern, is_resolved, parse, print, to_pattern, trivia};
 use fancy_syntax::{CompactTree, Error, Flags, Precedence, Rows, Style};
 use std::fmt::Debug;
 
@@ -37,6 +37,7 @@ fn a_failed_allocation_is_an_error() {
         refused += refusals(|| is_resolved(pattern, flags));
         refused += refusals(|| escape(pattern, flags));
         refused += refusals(|| class_ranges(pattern, flags));
+        refused += refusals(|| facts(pattern, flags));
         refused += refusals(|| format_pattern(pattern, flags, Style::Verbose { width: 8 }));
         refused += refusals(|| print(pattern, flags, Precedence::Piece));
         let _ = rows.parse(pattern, flags);

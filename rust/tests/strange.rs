@@ -2,7 +2,8 @@
 //! `.ci/strange.c`, which is linked instead where `FANCY_STRANGE` is set, there are many. Nothing may panic.
 
 use fancy_syntax::{
-    check, class_ranges, escape, format_pattern, is_resolved, parse, parse_decimal, parse_id, print, to_pattern, trivia,
+    check, class_ranges, escape, facts, format_pattern, is_resolved, parse, parse_decimal, parse_id, print, to_pattern,
+    trivia,
 };
 use fancy_syntax::{CompactTree, Error, Expr, Flags, GroupInfo, NodeRef, Precedence, Rows, Style, Tree};
 use std::collections::BTreeMap;
@@ -74,6 +75,7 @@ fn nothing_panics() {
             kind_of(&is_resolved(pattern, Flags::UNICODE)),
             kind_of(&escape(pattern, Flags::UNICODE)),
             kind_of(&class_ranges(pattern, Flags::UNICODE)),
+            kind_of(&facts(pattern, Flags::UNICODE)),
             kind_of(&Expr::Any { newline: false, crlf: false }.character_ranges(Flags::UNICODE)),
             kind_of(&parse_id(pattern)),
             kind_of(&parse_decimal(pattern)),

@@ -12,11 +12,11 @@ fn wanted(parts: &[Part]) -> Vec<Trivium> {
 
 #[test]
 fn trivia_by_hand() {
-    use TriviumKind::{Closing, Comment, Dropped, InlineFlags, LineComment, Opening};
+    use TriviumKind::{Closing, Comment, Dropped, InlineFlags, InnerComment, InnerLineComment, LineComment, Opening};
     let casei = U | Flags::CASEI;
     let verbose = U | Flags::IGNORE_SPACE;
     let oniguruma = U | Flags::ONIGURUMA_MODE;
-    let patterns: [(&str, Flags, &[Part]); 15] = [
+    let patterns: [(&str, Flags, &[Part]); 20] = [
         ("", U, &[]),
         (
             "a(?#b)c(?i)d(?:e)",
@@ -39,10 +39,16 @@ fn trivia_by_hand() {
             U,
             &[(0..4, InlineFlags { before: U, after: verbose }), (6..10, LineComment), (12..13, LineComment)],
         ),
-        // no comments: a character after a backslash, characters of a class, a part of a quantifier
+        // no comments: a character after a backslash, characters of a class
         (r"a\#b", verbose, &[]),
         ("[(?#)]", U, &[]),
-        ("a{1(?#c),2}", U, &[]),
+        // in a token: the counts of a quantifier, the opening of a group, flags, a hex code in a class
+        ("a{1(?#c),2}", U, &[(3..8, InnerComment)]),
+        ("a{1 #c\n,2}", verbose, &[(4..7, InnerLineComment)]),
+        ("((?#b)(?#c)a)", U, &[(1..6, InnerComment), (6..11, InnerComment)]),
+        ("((?#c)?:a)", U, &[(0..8, Opening { around: U, inside: U }), (1..6, InnerComment), (9..10, Closing)]),
+        ("(?i(?#c)s)", U, &[(0..10, InlineFlags { before: U, after: casei | Flags::DOTNL }), (3..8, InnerComment)]),
+        (r"[a\x(?#c){61}]", U, &[(4..9, InnerComment)]),
         // characters of two bytes
         ("é(?#é)", U, &[(2..8, Comment)]),
         ("(?s)", Flags::empty(), &[(0..4, InlineFlags { before: Flags::empty(), after: Flags::DOTNL })]),

@@ -146,6 +146,7 @@ def layouts(table: Table) -> list:
     """The order of fields where definitions have a whole struct."""
     problems = []
     made = ("Node", "plain k s n", "node"), ("InfoRows", "summary t m", "info"), ("TriviumRows", "row x", "trivium"), ("ClassRanges", "row r", "range")
+    made += ("FactRows", "known_row f", "node_facts"), ("FactRows", "unknown_row", "node_facts"), ("FactRows", "summary n x t", "pattern_facts")
     for name, of, key in made:
         found = [it for it in equations(f"fancy_c/specs/{name}.antt") if it.startswith(f"{of} = record")]
         own = [it.name for it in table.struct(key).fields]

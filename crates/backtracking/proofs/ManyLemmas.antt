@@ -3,7 +3,7 @@ use Rattle.std.proofs.Common.{◌≡◌, ◌≢◌, ℕ, suc, ◌<◌, Bool, tru
 use Rattle.std.proofs.Common.{refl, sym, ap, subst, arith, length-append}
 use Rattle.fancy_grammar.specs.Tree.{Tree, Trees}
 use Rattle.backtracking.specs.ManyWays.{times, chosen, HasManyWays}
-use Rattle.backtracking.specs.TwoWays.{Rest, at, Goes, nothing, one, within, each, branch, turns, GoesAll, no_more, next}
+use Rattle.backtracking.specs.TwoWays.{Rest, at, Goes, nothing, passed, one, within, each, branch, turns, GoesAll, no_more, next}
 use Rattle.backtracking.specs.TwoWays.{Turns, no_turn, turn, Part, here, later, IsWay, AreTwoWays}
 use Rattle.backtracking.specs.declared.decision.Decision.{Decision}
 
@@ -17,6 +17,7 @@ longer v w x h = omega (arith, h, length-append v x, length-append w x)
 mutual
   more_goes : (unicode : Bool) (t : Tree) (s u r : Rest) → Goes unicode t s u → Goes unicode t (and_then s r) (and_then u r)
   more_goes unicode t s u r nothing = nothing
+  more_goes unicode t s u r (passed h) = passed h
   more_goes unicode t s u r (one m) = one m
   more_goes unicode t s u r (within k) = within (more_goes unicode _ s u r k)
   more_goes unicode t s u r (each k) = each (more_goes_all unicode _ s u r k)

@@ -1,6 +1,7 @@
 -- The definitions that the contracts use.
 
 pub mod OneCharacter
+pub mod Passed
 pub mod RegularShape
 pub mod TwoWays
 pub mod ManyWays

@@ -1,8 +1,9 @@
 -- What a node is to the searches.
-use Rattle.std.specs.Prelude.{◌≡◌, Bool, true, false}
+use Rattle.std.specs.Prelude.{◌≡◌, Bool, true, false, ◌||◌}
 use Rattle.fancy_grammar.specs.Tree.{Tree, empty, group, repeat, concat, alt, trees_of}
 use Rattle.fancy_syntax.specs.View.{view, views}
 use Rattle.backtracking.specs.OneCharacter.{is_character}
+use Rattle.backtracking.specs.Passed.{is_passed}
 use Rattle.backtracking.specs.declared.regular_shape.RegularShape.{RegularShape}
 use Rattle.backtracking.specs.declared.regular_shape.RegularShape.TheVariants as shape
 
@@ -13,12 +14,13 @@ is_regular (group t) = true
 is_regular (repeat t lo hi greedy) = true
 is_regular (concat ts) = true
 is_regular (alt ts) = true
-is_regular t = is_character t
+is_regular t = is_character t || is_passed t
 
 -- the tree has this shape
 abbrev pub HasRegularShape : RegularShape → Tree → Type 0
 HasRegularShape shape.Empty t = t ≡ empty
 HasRegularShape shape.Character t = is_character t ≡ true
+HasRegularShape shape.Passed t = is_passed t ≡ true
 HasRegularShape (shape.Group child) t = t ≡ group (view child.now)
 HasRegularShape (shape.Repeat child lo hi) t = (greedy : Bool) × (t ≡ repeat (view child.now) lo hi greedy)
 HasRegularShape (shape.Concat trees) t = t ≡ concat (trees_of (views trees.now))

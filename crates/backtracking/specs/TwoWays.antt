@@ -1,8 +1,10 @@
 -- The ways in which a part of a pattern matches a text, decision by decision. Literals, classes, dots, groups,
--- concatenations, alternations and repeats have ways. `unicode` says whether classes are read with Unicode.
-use Rattle.std.specs.Prelude.{◌≡◌, ◌≢◌, ℕ, Bool, suc, ◌<◌, ◌≤◌, List, [], ◌∷◌, length, slice_get, Some}
+-- concatenations, alternations and repeats have ways. Look-around, assertions, references and conditionals are passed: they
+-- are taken as empty, whether they hold or not. `unicode` says whether classes are read with Unicode.
+use Rattle.std.specs.Prelude.{◌≡◌, ◌≢◌, ℕ, Bool, true, suc, ◌<◌, ◌≤◌, List, [], ◌∷◌, length, slice_get, Some}
 use Rattle.fancy_grammar.specs.Tree.{Tree, Trees, no_trees, more_trees, list_of, empty, group, concat, alt, repeat}
 use Rattle.backtracking.specs.OneCharacter.{MayMatch}
+use Rattle.backtracking.specs.Passed.{is_passed}
 use Rattle.backtracking.specs.declared.decision.Decision.{Decision}
 use Rattle.backtracking.specs.declared.decision.Decision.TheVariants.{Branch, Again, Done}
 
@@ -18,6 +20,7 @@ mutual
   -- Goes unicode t s u: the tree takes the first decisions and matches the first characters of s, and u is what remains.
   pub data Goes : Bool → Tree → Rest → Rest → Type 0 where
     nothing : {unicode s : _} → Goes unicode empty s s
+    passed : {unicode t s : _} → is_passed t ≡ true → Goes unicode t s s
     one : {unicode t c ds w : _} → MayMatch unicode t c → Goes unicode t (at ds (c ∷ w)) (at ds w)
     within : {unicode t s u : _} → Goes unicode t s u → Goes unicode (group t) s u
     each : {unicode ts s u : _} → GoesAll unicode ts s u → Goes unicode (concat ts) s u

@@ -1,9 +1,12 @@
 //! Texts on which an engine tries all ways through a repeat.
+use crate::growth::{Growth, RepeatedText, grows};
 use crate::known_sets::{ClassSets, KnownSets};
+use crate::program::{Program, program_of};
 use crate::sample::Sample;
 use crate::trial::{Trial, add_positions, is_any};
 use fancy_syntax::expr::{Expr, Shape, Wrap};
 use fancy_syntax::span::Span;
+use fancy_syntax::spanned::SpannedTree;
 use std::alloc::{AllocError, Global};
 
 /// How many times a trial has the word.
@@ -12,9 +15,15 @@ const REPETITIONS: usize = 3;
 /// The most nodes that are tried for a pattern.
 const MOST_TRIALS: usize = 20_000;
 
+/// The most steps of searches for a pattern.
+const MOST_STEPS: usize = 2_000_000;
+
 /// What may follow the repeated word, each in its turn.
-static ENDINGS: [&str; 29] = [
+static ENDINGS: [&str; 32] = [
     "!",
+    "g",
+    "0aA@!",
+    "x!",
     "\n\n",
     "@",
     "\"",
@@ -79,10 +88,16 @@ pub(crate) struct Surroundings<'a, 'k> {
     pub(crate) trials: usize,
     /// How many pairs of repeats were searched.
     pub(crate) searches: usize,
+    /// How many steps were taken in searches for a match.
+    pub(crate) steps: usize,
+    /// The program of the pattern, once it was asked for; `None` if the pattern is not tried as a whole.
+    program: Option<Option<Program>>,
+    root: &'a Expr,
+    groups: usize,
     /// The characters of nodes.
     pub(crate) sets: KnownSets<'a, 'k>,
-    /// What there was too much of to look at.
-    pub(crate) too_large: Vec<Span>,
+    /// What was not searched.
+    pub(crate) not_searched: Vec<Span>,
 }
 
 /// What is put around a word that is repeated.
@@ -125,6 +140,14 @@ impl<'a> Target<'a> {
         }
     }
 
+    /// How the steps grow.
+    fn growth(self) -> Growth {
+        match self {
+            Target::Repeat(_) => Growth::Exponential,
+            Target::Sequence { .. } => Growth::Polynomial,
+        }
+    }
+
     /// The positions that it may lead to from these.
     fn ends(self, trial: &mut Trial<'_, 'a, '_>, starts: &[bool]) -> Result<Vec<bool>, AllocError> {
         match self {
@@ -139,13 +162,50 @@ impl<'a> Target<'a> {
 
 impl<'a, 'k> Surroundings<'a, 'k> {
     /// Those of the root.
-    pub(crate) fn new(alloc: Global, classes: &'k mut ClassSets) -> Surroundings<'a, 'k> {
+    pub(crate) fn new(
+        alloc: Global,
+        parsed: &'a SpannedTree,
+        classes: &'k mut ClassSets,
+    ) -> Surroundings<'a, 'k> {
         Surroundings {
             around: Vec::new(alloc),
             trials: 0,
             searches: 0,
+            steps: 0,
+            program: None,
+            root: parsed.root().expr(),
+            groups: parsed.tree.total_groups,
             sets: KnownSets::new(alloc, classes),
-            too_large: Vec::new(alloc),
+            not_searched: Vec::new(alloc),
+        }
+    }
+
+    /// Whether the pattern was searched for in texts for so long that no more are tried.
+    pub(crate) fn is_exhausted(&self) -> bool {
+        self.steps > MOST_STEPS || self.trials > MOST_TRIALS
+    }
+
+    /// Whether the pattern is tried as a whole. Writes its program the first time.
+    fn is_tried(&mut self, alloc: Global) -> Result<bool, AllocError> {
+        if let Some(program) = &self.program {
+            return Ok(program.is_some());
+        }
+        let program = program_of(alloc, self.root, self.groups, &mut self.sets)?;
+        let is_tried = program.is_some();
+        self.program = Some(program);
+        Ok(is_tried)
+    }
+
+    /// Whether a search for the pattern in the text takes a number of steps that grows so.
+    fn grows(
+        &mut self,
+        alloc: Global,
+        text: RepeatedText<'_>,
+        growth: Growth,
+    ) -> Result<bool, AllocError> {
+        match &self.program {
+            Some(Some(program)) => grows(alloc, program, text, growth, &mut self.steps),
+            Some(None) | None => Ok(false),
         }
     }
 }
@@ -285,8 +345,59 @@ fn find_ending<'a>(
     Ok(None)
 }
 
-/// What to put around the word, so that an engine tries all ways through the target; `None` if nothing was found that
-/// lets what follows the target fail.
+/// What to put after the word, so that a search takes a number of steps that grows so; `None` if nothing was found.
+fn find_slow_ending(
+    alloc: Global,
+    before: &[char],
+    word: &[char],
+    growth: Growth,
+    surroundings: &mut Surroundings<'_, '_>,
+) -> Result<Option<Vec<char>>, AllocError> {
+    for ending in ENDINGS.iter() {
+        if surroundings.is_exhausted() {
+            break;
+        }
+        let mut after = Vec::new(alloc);
+        for c in ending.chars() {
+            after.push(c)?;
+        }
+        let text = RepeatedText {
+            before,
+            word,
+            after: &after,
+        };
+        if surroundings.grows(alloc, text, growth)? {
+            return Ok(Some(after));
+        }
+    }
+    Ok(None)
+}
+
+/// What to put after the word, so that what follows the target fails; `None` if nothing was found. The target's
+/// concatenation starts after the text `lead`, if one was found.
+fn find_failing_ending<'a>(
+    alloc: Global,
+    target: Target<'a>,
+    lead: Option<&Lead>,
+    word: &[char],
+    surroundings: &mut Surroundings<'a, '_>,
+) -> Result<Option<Vec<char>>, AllocError> {
+    let mut text = Vec::new(alloc);
+    let mut tried = target;
+    let mut start = 0usize;
+    if let Some(lead) = lead {
+        text.extend_from_slice(&lead.text)?;
+        tried = target.from_start();
+        start = lead.start;
+    }
+    for _ in 0..REPETITIONS {
+        text.extend_from_slice(word)?;
+    }
+    find_ending(alloc, tried, start, &mut text, surroundings)
+}
+
+/// What to put around the word, so that an engine tries all ways through the target; `None` if nothing was found. If the
+/// pattern is tried as a whole, the steps of a search have to grow; else what follows the target has to fail.
 pub(crate) fn find_attack<'a>(
     alloc: Global,
     target: Target<'a>,
@@ -297,18 +408,13 @@ pub(crate) fn find_attack<'a>(
         return Ok(None);
     }
     let lead = lead_to(alloc, target, surroundings)?;
-    let mut text = Vec::new(alloc);
-    let mut tried = target;
-    let mut start = 0usize;
-    if let Some(lead) = &lead {
-        text.extend_from_slice(&lead.text)?;
-        tried = target.from_start();
-        start = lead.start;
-    }
-    for _ in 0..REPETITIONS {
-        text.extend_from_slice(word)?;
-    }
-    let Some(after) = find_ending(alloc, tried, start, &mut text, surroundings)? else {
+    let after = match &lead {
+        Some(lead) if surroundings.is_tried(alloc)? => {
+            find_slow_ending(alloc, &lead.text, word, target.growth(), surroundings)?
+        }
+        Some(_) | None => { find_failing_ending(alloc, target, lead.as_ref(), word, surroundings)? }
+    };
+    let Some(after) = after else {
         return Ok(None);
     };
     let before = match lead {

@@ -20,7 +20,7 @@ pub(crate) enum NotBuilt {
     /// Out of memory.
     #[error("out of memory")]
     Memory(#[from(alloc)] AllocError),
-    /// The part holds what has no ways of its own, as a reference.
+    /// The part holds what has no ways of its own, as an atomic group.
     #[error("a part without ways")]
     Irregular,
     /// The automaton would be too large.
@@ -176,7 +176,7 @@ impl Automaton {
         next: usize,
     ) -> Result<usize, NotBuilt> {
         match regular_shape(tree) {
-            RegularShape::Empty => Ok(next),
+            RegularShape::Empty | RegularShape::Passed => Ok(next),
             RegularShape::Character => self.add_position(sets, tree, next),
             RegularShape::Group(child) => self.add_tree(sets, child, next),
             RegularShape::Repeat { child, lo, hi } => self.add_repeat(sets, child, lo, hi, next),

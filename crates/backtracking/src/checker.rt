@@ -47,7 +47,7 @@ fn go_over_character<'a>(
 }
 
 /// What remains after the tree has gone over its decisions and its characters, if they lead through it. Look-around,
-/// references, calls, conditions and atomic groups have no ways of their own.
+/// references and conditionals are passed; calls and atomic groups have no ways of their own.
 #[cycle(go_over)]
 fn go_over<'a>(
     alloc: Global,
@@ -59,6 +59,7 @@ fn go_over<'a>(
 {
     match regular_shape(tree) {
         RegularShape::Empty => Ok(Some(from)),
+        RegularShape::Passed => Ok(Some(from)),
         RegularShape::Character => go_over_character(alloc, tree, unicode, from),
         RegularShape::Group(child) => go_over(alloc, child, unicode, from),
         RegularShape::Repeat { child, lo, hi } => {

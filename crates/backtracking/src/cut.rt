@@ -31,7 +31,7 @@ pub enum SequenceWays {
     Polynomial(SequenceWitness),
     /// No such word was found.
     NoneFound,
-    /// There is look-around, a reference or the like in them or between them.
+    /// There is an atomic group, a call or the like in them or between them.
     Irregular,
     /// There is too much to look at.
     TooLarge,

@@ -47,6 +47,8 @@ pub(crate) struct Pairs<'a> {
     /// Of each two sets a character that both have, once it was looked for.
     common: Vec<Option<Option<char>>>,
     tries: usize,
+    /// How many texts are still to be passed over.
+    others: usize,
 }
 
 impl<'a> Pairs<'a> {
@@ -75,11 +77,13 @@ impl<'a> Pairs<'a> {
             seen: vec![in alloc; false; positions.saturating_mul(positions.saturating_add(1))]?,
             common: vec![in alloc; None; sets.saturating_mul(sets)]?,
             tries: 0,
+            others: 0,
         })
     }
 
-    /// Searches for a shortest text that two ways match.
-    pub(crate) fn search(mut self) -> Result<Searched, AllocError> {
+    /// Searches for a shortest text that two ways match, after so many others.
+    pub(crate) fn search(mut self, others: usize) -> Result<Searched, AllocError> {
+        self.others = others;
         for at in 0..MOST_PAIRS {
             let Some(pair) = self.pairs.get(at) else {
                 return Ok(Searched::Nothing);
@@ -139,11 +143,15 @@ impl<'a> Pairs<'a> {
     /// Adds the pair, if some character leads there. Says whether two ways have come back to the start of a turn.
     fn arrive(&mut self, next: Pair) -> Result<bool, AllocError> {
         if next.first == 0 || next.second == 0 {
-            let is_found = next.differ && next.first == next.second;
-            if is_found {
-                self.pairs.push(next)?;
+            if !next.differ || next.first != next.second {
+                return Ok(false);
             }
-            return Ok(is_found);
+            if self.others > 0 {
+                self.others = self.others.saturating_sub(1);
+                return Ok(false);
+            }
+            self.pairs.push(next)?;
+            return Ok(true);
         }
         let at = self.index(next);
         let Some(false) = self.seen.get(at).copied() else {

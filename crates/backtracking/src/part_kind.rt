@@ -22,7 +22,7 @@ pub(crate) enum PartKind {
     Choices,
     /// Each turn has one way.
     OneWay,
-    /// It holds look-around, a reference or the like.
+    /// It holds an atomic group, a call or the like.
     Irregular,
     /// It has too many nodes.
     TooLarge,
@@ -37,7 +37,7 @@ impl PartFacts {
             return;
         }
         match regular_shape(tree) {
-            RegularShape::Empty | RegularShape::Character => {}
+            RegularShape::Empty | RegularShape::Character | RegularShape::Passed => {}
             RegularShape::Group(child) => self.add(child),
             RegularShape::Repeat { child, lo, hi } => {
                 self.has_choice = self.has_choice || lo < hi;

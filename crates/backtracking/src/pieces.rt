@@ -13,7 +13,7 @@ use std::alloc::{AllocError, Global};
 pub(crate) enum Piece {
     /// It has ways of its own.
     Regular(RegularPiece),
-    /// It holds look-around, a reference or the like.
+    /// It holds an atomic group, a call or the like.
     Irregular,
     /// It has too many nodes.
     TooLarge,
@@ -56,7 +56,7 @@ impl<'s, 'a, 'k> Alphabet<'s, 'a, 'k> {
             RegularShape::Character => self.add_node(tree),
             RegularShape::Group(child) | RegularShape::Repeat { child, .. } => self.add(child),
             RegularShape::Concat(trees) | RegularShape::Alt(trees) => self.add_all(trees),
-            RegularShape::Empty | RegularShape::Irregular => Ok(()),
+            RegularShape::Empty | RegularShape::Passed | RegularShape::Irregular => Ok(()),
         }
     }
 
@@ -85,7 +85,7 @@ impl<'s, 'a, 'k> Alphabet<'s, 'a, 'k> {
 #[cycle(can_be_empty)]
 fn can_be_empty(tree: &Expr) -> bool {
     match regular_shape(tree) {
-        RegularShape::Empty => true,
+        RegularShape::Empty | RegularShape::Passed => true,
         RegularShape::Character | RegularShape::Irregular => false,
         RegularShape::Group(child) => can_be_empty(child),
         RegularShape::Repeat { child, lo, .. } => lo == 0 || can_be_empty(child),

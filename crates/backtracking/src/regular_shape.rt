@@ -3,6 +3,7 @@ ghost use Rattle.fancy_syntax.specs.View.{view};
 ghost use Rattle.backtracking.specs.RegularShape.{HasRegularShape};
 
 use crate::characters::is_one_character;
+use crate::passed::may_be_passed;
 use fancy_syntax::expr::{Expr, Shape, Wrap};
 
 /// What a node is to the searches. Each variant but the last has ways of its own.
@@ -12,6 +13,8 @@ pub(crate) enum RegularShape<'a> {
     Empty,
     /// A node that matches one character.
     Character,
+    /// A node that is passed, as look-around or a reference: it is taken as empty.
+    Passed,
     /// A `Group` of the child.
     Group(&'a Expr),
     /// A `Repeat` of the child, from `lo` to `hi` times.
@@ -24,7 +27,7 @@ pub(crate) enum RegularShape<'a> {
     Concat(&'a [Expr]),
     /// The branches of an `Alt`.
     Alt(&'a [Expr]),
-    /// Any other node, as look-around, a reference or an atomic group. No search goes into it.
+    /// Any other node, as an atomic group or a call. No search goes into it.
     Irregular,
 }
 
@@ -38,6 +41,8 @@ pub(crate) fn regular_shape(tree: &Expr) -> RegularShape<'_>
                 RegularShape::Empty
             } else if is_one_character(tree) {
                 RegularShape::Character
+            } else if may_be_passed(tree) {
+                RegularShape::Passed
             } else {
                 RegularShape::Irregular
             }
@@ -48,15 +53,8 @@ pub(crate) fn regular_shape(tree: &Expr) -> RegularShape<'_>
         }
         Shape::Concat(trees) => RegularShape::Concat(trees),
         Shape::Alt(branches) => RegularShape::Alt(branches),
-        Shape::Around(
-            Wrap::LookAround(_)
-            | Wrap::AtomicGroup
-            | Wrap::DefineGroup
-            | Wrap::Repeater
-            | Wrap::Stopper,
-            _,
-        )
-        | Shape::Conditional { .. }
+        Shape::Around(Wrap::LookAround(_), _) | Shape::Conditional { .. } => RegularShape::Passed,
+        Shape::Around(Wrap::AtomicGroup | Wrap::DefineGroup | Wrap::Repeater | Wrap::Stopper, _)
         | Shape::Expression { .. } => RegularShape::Irregular,
     }
 }

@@ -1,5 +1,5 @@
 //! The repeats of a pattern that can match a text in exponentially many ways.
-ghost use Rattle.std.specs.Prelude.{IfOk, OnOk};
+ghost use Rattle.std.specs.Prelude.{Bool, IfOk, IfSome, OnOk};
 ghost use Rattle.std.specs.List.{AllByRecursion};
 ghost use Rattle.fancy_syntax.specs.Spanned.{Spanned, spanned_of, spanned_of_tree, IsNodeOf};
 ghost use Rattle.backtracking.specs.SlowRepeats.{IsSlowIn, IsLooked};
@@ -16,6 +16,9 @@ use std::alloc::{AllocError, Global};
 /// A repeat is looked at if it has no limit, or one above this.
 pub(crate) const SMALL_LIMIT: usize = 20;
 
+/// How many words of a repeat are tried.
+const MOST_WORDS: usize = 8;
+
 /// A repeat that can match a text in exponentially many ways.
 #[derive(Drop)]
 pub struct SlowRepeat {
@@ -31,8 +34,8 @@ pub struct SlowRepeat {
 #[derive(Drop)]
 pub struct SlowRepeats {
     pub slow: Vec<SlowRepeat>,
-    /// Those that have too much to look at, in byte offsets.
-    pub too_large: Vec<Span>,
+    /// Those that were not searched: they have too much to look at, a call, an atomic group or the like. In byte offsets.
+    pub not_searched: Vec<Span>,
 }
 
 /// What is known of the pattern.
@@ -52,6 +55,61 @@ enum Looked {
     Unknown,
 }
 
+/// Whether the node has something below it that a search passes.
+fn hides_nodes(node: &Expr) -> bool {
+    matches!(node, Expr::LookAround(..) | Expr::Conditional { .. })
+}
+
+/// What has come of a look at a repeat of the tree that is not slow.
+fn looked_at_fast(tree: &Expr) -> Looked
+    ensures { (unicode : Bool) → (p : Spanned) → IsLooked unicode p result }
+{
+    if hides_nodes(tree) || tree.has_descendant(hides_nodes) {
+        Looked::Unknown
+    } else {
+        Looked::Fast
+    }
+}
+
+/// Searches for two ways through the repeat that the node is, over a word after so many others, and for what to put around
+/// it. Returns `None` if there is nothing to put around it.
+fn look_for_word<'a>(
+    node: SpannedNode<'a>,
+    options: SearchOptions,
+    others: usize,
+    surroundings: &mut Surroundings<'a, '_>,
+) -> Result<Option<Looked>, AllocError>
+    ensures { IfOk result (λ looked. IfSome looked (IsLooked options.unicode (spanned_of node.entry))) }
+{
+    let SearchOptions { alloc, unicode } = options;
+    let Expr::Repeat { child, hi, .. } = node.expr() else {
+        return Ok(Some(Looked::Unknown));
+    };
+    if *hi <= SMALL_LIMIT {
+        return Ok(Some(Looked::Unknown));
+    }
+    let witness = match ways_of_turns(alloc, child, unicode, others, &mut surroundings.sets)? {
+        RepeatWays::Exponential(witness) => witness,
+        RepeatWays::NoneFound if others == 0 => return Ok(Some(looked_at_fast(child))),
+        RepeatWays::Irregular | RepeatWays::TooLarge if others == 0 => {
+            surroundings.not_searched.push(node.span())?;
+            return Ok(Some(Looked::Unknown));
+        }
+        RepeatWays::NoneFound | RepeatWays::Irregular | RepeatWays::TooLarge => {
+            return Ok(Some(Looked::Unknown));
+        }
+    };
+    let target = Target::Repeat(node.expr());
+    match find_attack(alloc, target, &witness.word, surroundings)? {
+        Some(attack) => Ok(Some(Looked::Slow(SlowRepeat {
+            span: node.span(),
+            witness,
+            attack,
+        }))),
+        None => Ok(None),
+    }
+}
+
 /// Searches for two ways through the repeat that the node is, and for what to put around the word.
 fn look_at<'a>(
     node: SpannedNode<'a>,
@@ -60,7 +118,6 @@ fn look_at<'a>(
 ) -> Result<Looked, AllocError>
     ensures { IfOk result (IsLooked options.unicode (spanned_of node.entry)) }
 {
-    let SearchOptions { alloc, unicode } = options;
     let Expr::Repeat { child, hi, .. } = node.expr() else {
         return Ok(Looked::Unknown);
     };
@@ -68,36 +125,22 @@ fn look_at<'a>(
         return Ok(Looked::Unknown);
     }
     match kind_of(child) {
-        PartKind::OneWay => return Ok(Looked::Fast),
-        PartKind::Irregular => return Ok(Looked::Unknown),
-        PartKind::TooLarge => {
-            surroundings.too_large.push(node.span())?;
+        PartKind::OneWay => return Ok(looked_at_fast(child)),
+        PartKind::Irregular | PartKind::TooLarge => {
+            surroundings.not_searched.push(node.span())?;
             return Ok(Looked::Unknown);
         }
         PartKind::Choices => {}
     }
-    let witness = match ways_of_turns(alloc, child, unicode, &mut surroundings.sets)? {
-        RepeatWays::Exponential(witness) => witness,
-        RepeatWays::NoneFound => return Ok(Looked::Fast),
-        RepeatWays::Irregular => return Ok(Looked::Unknown),
-        RepeatWays::TooLarge => {
-            surroundings.too_large.push(node.span())?;
-            return Ok(Looked::Unknown);
+    for others in 0..MOST_WORDS {
+        if others > 0 && surroundings.is_exhausted() {
+            break;
         }
-    };
-    match find_attack(
-        alloc,
-        Target::Repeat(node.expr()),
-        &witness.word,
-        surroundings,
-    )? {
-        Some(attack) => Ok(Looked::Slow(SlowRepeat {
-            span: node.span(),
-            witness,
-            attack,
-        })),
-        None => Ok(Looked::Unknown),
+        if let Some(looked) = look_for_word(node, options, others, surroundings)? {
+            return Ok(looked);
+        }
     }
+    Ok(Looked::Unknown)
 }
 
 /// Whether repeats below the node are left alone: it looks back, or what follows them is not known.
@@ -155,7 +198,7 @@ pub fn slow_repeats(
         AllByRecursion (IsSlowIn classes.old.unicode (spanned_of_tree parsed.now)) r.slow.items) }
 {
     let unicode = classes.unicode;
-    let mut surroundings = Surroundings::new(alloc, classes);
+    let mut surroundings = Surroundings::new(alloc, parsed, classes);
     let mut found = Vec::new(alloc);
     look(
         parsed.root(),
@@ -165,6 +208,6 @@ pub fn slow_repeats(
     )?;
     Ok(SlowRepeats {
         slow: found,
-        too_large: surroundings.too_large,
+        not_searched: surroundings.not_searched,
     })
 }

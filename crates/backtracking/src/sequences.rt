@@ -47,7 +47,7 @@ pub struct SlowSequence {
 pub struct SlowSequences {
     pub slow: Vec<SlowSequence>,
     /// Those that have too much to look at, from the first repeat on, in byte offsets.
-    pub too_large: Vec<Span>,
+    pub not_searched: Vec<Span>,
 }
 
 /// A concatenation: its trees, and their spans.
@@ -72,6 +72,7 @@ pub(crate) fn repeated_part(tree: &Expr) -> Option<&Expr>
         }
         RegularShape::Empty
         | RegularShape::Character
+        | RegularShape::Passed
         | RegularShape::Concat(_)
         | RegularShape::Alt(_)
         | RegularShape::Irregular => None,
@@ -136,7 +137,7 @@ fn look_at_cut<'a>(
         return Ok(None);
     };
     if surroundings.searches >= MOST_SEARCHES {
-        surroundings.too_large.push(span)?;
+        surroundings.not_searched.push(span)?;
         return Ok(None);
     }
     surroundings.searches = surroundings.searches.saturating_add(1);
@@ -144,7 +145,7 @@ fn look_at_cut<'a>(
         SequenceWays::Polynomial(witness) => witness,
         SequenceWays::NoneFound | SequenceWays::Irregular => return Ok(None),
         SequenceWays::TooLarge => {
-            surroundings.too_large.push(span)?;
+            surroundings.not_searched.push(span)?;
             return Ok(None);
         }
     };
@@ -190,7 +191,7 @@ fn add_too_large(
     surroundings: &mut Surroundings<'_, '_>,
 ) -> Result<(), AllocError> {
     if let Some(span) = span_across(row.spans, first, last) {
-        surroundings.too_large.push(span)?;
+        surroundings.not_searched.push(span)?;
     }
     Ok(())
 }
@@ -355,7 +356,7 @@ pub fn slow_sequences(
         AllByRecursion (IsSlowSequenceIn classes.old.unicode (spanned_of_tree parsed.now)) r.slow.items) }
 {
     let unicode = classes.unicode;
-    let mut surroundings = Surroundings::new(alloc, classes);
+    let mut surroundings = Surroundings::new(alloc, parsed, classes);
     let mut found = Vec::new(alloc);
     look(
         parsed.root(),
@@ -365,6 +366,6 @@ pub fn slow_sequences(
     )?;
     Ok(SlowSequences {
         slow: found,
-        too_large: surroundings.too_large,
+        not_searched: surroundings.not_searched,
     })
 }

@@ -40,6 +40,29 @@ fn is_word(c: Option<char>) -> bool {
     c.is_some_and(|c| c.is_alphanumeric() || c == '_')
 }
 
+/// Whether the assertion holds at the position of the text.
+pub(crate) fn holds_at(text: &[char], assertion: Assertion, at: usize) -> bool {
+    let before = at.checked_sub(1).and_then(|i| text.get(i)).copied();
+    let next = text.get(at).copied();
+    match assertion {
+        Assertion::StartText => before.is_none(),
+        Assertion::EndText => next.is_none(),
+        Assertion::EndTextIgnoreTrailingNewlines { .. } => {
+            text.get(at..).unwrap_or(&[]).iter().all(|c| *c == '\n')
+        }
+        Assertion::StartLine { .. } | Assertion::StartLineOniguruma { .. } => {
+            before.is_none_or(|c| c == '\n')
+        }
+        Assertion::EndLine { .. } => next.is_none_or(|c| c == '\n'),
+        Assertion::LeftWordBoundary => !is_word(before) && is_word(next),
+        Assertion::LeftWordHalfBoundary => !is_word(before),
+        Assertion::RightWordBoundary => is_word(before) && !is_word(next),
+        Assertion::RightWordHalfBoundary => !is_word(next),
+        Assertion::WordBoundary => is_word(before) != is_word(next),
+        Assertion::NotWordBoundary => is_word(before) == is_word(next),
+    }
+}
+
 impl<'t, 'a, 'k> Trial<'t, 'a, 'k> {
     /// A trial on the text.
     pub(crate) fn new(
@@ -232,39 +255,12 @@ impl<'t, 'a, 'k> Trial<'t, 'a, 'k> {
         let mut set = self.all(false)?;
         for (at, is_start) in starts.iter().enumerate() {
             if *is_start
-                && self.holds(assertion, at)
+                && holds_at(self.text, assertion, at)
                 && let Some(has) = set.get_mut(at)
             {
                 *has = true;
             }
         }
         Ok(set)
-    }
-
-    /// Whether the assertion holds at the position.
-    fn holds(&self, assertion: Assertion, at: usize) -> bool {
-        let before = at.checked_sub(1).and_then(|i| self.text.get(i)).copied();
-        let next = self.text.get(at).copied();
-        match assertion {
-            Assertion::StartText => before.is_none(),
-            Assertion::EndText => next.is_none(),
-            Assertion::EndTextIgnoreTrailingNewlines { .. } => {
-                self.text
-                    .get(at..)
-                    .unwrap_or(&[])
-                    .iter()
-                    .all(|c| *c == '\n')
-            }
-            Assertion::StartLine { .. } | Assertion::StartLineOniguruma { .. } => {
-                before.is_none_or(|c| c == '\n')
-            }
-            Assertion::EndLine { .. } => next.is_none_or(|c| c == '\n'),
-            Assertion::LeftWordBoundary => !is_word(before) && is_word(next),
-            Assertion::LeftWordHalfBoundary => !is_word(before),
-            Assertion::RightWordBoundary => is_word(before) && !is_word(next),
-            Assertion::RightWordHalfBoundary => !is_word(next),
-            Assertion::WordBoundary => is_word(before) != is_word(next),
-            Assertion::NotWordBoundary => is_word(before) == is_word(next),
-        }
     }
 }

@@ -30,16 +30,18 @@ pub enum RepeatWays {
     Exponential(Witness),
     /// No such word was found.
     NoneFound,
-    /// It holds look-around, a reference or the like.
+    /// It holds an atomic group, a call or the like.
     Irregular,
     /// There is too much to look at.
     TooLarge,
 }
 
-/// Searches for a word that turns of the tree can match in two ways. What it finds is still to be checked.
+/// Searches for a word that turns of the tree can match in two ways, after so many others. What it finds is still to be
+/// checked.
 fn search<'a>(
     alloc: Global,
     tree: &'a Expr,
+    others: usize,
     sets: &mut KnownSets<'a, '_>,
 ) -> Result<Searched, AllocError> {
     let automaton = match Automaton::of(alloc, tree, sets) {
@@ -51,21 +53,22 @@ fn search<'a>(
     let Some(routes) = all_routes(alloc, &automaton)? else {
         return Ok(Searched::TooLarge);
     };
-    Pairs::new(alloc, &automaton, &routes)?.search()
+    Pairs::new(alloc, &automaton, &routes)?.search(others)
 }
 
-/// Searches for a word that turns of the tree can match in two ways, as `ways_of_repeat` does, with what is known of the
-/// nodes of the pattern.
+/// Searches for a word that turns of the tree can match in two ways, as `ways_of_repeat` does, after so many others, with
+/// what is known of the nodes of the pattern.
 pub(crate) fn ways_of_turns<'a>(
     alloc: Global,
     tree: &'a Expr,
     unicode: bool,
+    others: usize,
     sets: &mut KnownSets<'a, '_>,
 ) -> Result<RepeatWays, AllocError>
     ensures witnessed { IfOk result (IsWitnessed unicode (view tree.entry.now)) }
     ensures exponential { IfOk result (IsExponential unicode (view tree.entry.now)) }
 {
-    let witness = match search(alloc, tree, sets)? {
+    let witness = match search(alloc, tree, others, sets)? {
         Searched::Found(witness) => witness,
         Searched::Nothing => return Ok(RepeatWays::NoneFound),
         Searched::Irregular => return Ok(RepeatWays::Irregular),
@@ -95,5 +98,5 @@ pub fn ways_of_repeat(alloc: Global, tree: &Expr, unicode: bool) -> Result<Repea
 {
     let mut classes = ClassSets::new(alloc, unicode);
     let mut sets = KnownSets::new(alloc, &mut classes);
-    ways_of_turns(alloc, tree, unicode, &mut sets)
+    ways_of_turns(alloc, tree, unicode, 0, &mut sets)
 }

@@ -15,7 +15,7 @@ use Rattle.class_rules.specs.KnownClasses.{IsClassOf, IsProblemOf, AreProblemsOf
 use Rattle.class_rules.specs.declared.class_look.LookAt.{LookAt}
 use Rattle.class_rules.specs.declared.class_problem.ClassFinding.{ClassFinding}
 use Rattle.class_rules.specs.declared.class_problem.ClassLook.{ClassLook}
-use Rattle.class_rules.specs.declared.class_problem.ClassLook.TheVariants.{Alternatives, PosixClass, WideRange, Word}
+use Rattle.class_rules.specs.declared.class_problem.ClassLook.TheVariants.{Alternatives, PosixClass, DoubledBackslashes, WideRange, Word}
 use Rattle.class_rules.specs.declared.class_problem.ClassProblem.{ClassProblem}
 use Rattle.class_rules.specs.declared.class_problem.ClassProblem.TheVariants as problem
 use Rattle.class_rules.specs.declared.known_classes.ClassText.{ClassText}
@@ -48,6 +48,7 @@ brackets_inside text alone span (before, part, after, cut, _) = cut_inside text 
 look_inside : (source : List ℕ) (span : Span) (look : ClassLook) → ShowsLook source span look → IsInside source span
 look_inside source span Alternatives h = all_inside source span h.0
 look_inside source span PosixClass h = all_inside source span h.0
+look_inside source span DoubledBackslashes h = all_inside source span h.0
 look_inside source span WideRange h = text_inside source h.0 span h.1
 look_inside source span Word all = all_inside source span all
 
@@ -59,6 +60,8 @@ problem_inside f casei source text span problem.DuplicateCharacters h = leaves_i
 problem_inside f casei source text span (problem.SuspiciousClass look) h = look_inside source span look h.1
 problem_inside f casei source text span (problem.SuspiciousRange first last) h =
     brackets_inside source h.2.0 span h.2.1
+problem_inside f casei source text span problem.BarBetweenEscapes h = text_inside source h.0.0 span h.0.1
+problem_inside f casei source text span problem.HyphenRange h = text_inside source h.0 span h.1
 problem_inside f casei source text span (problem.SubsumedBranch other branch) h = absurd h
 
 -- what is in a part of a pattern ends in the part

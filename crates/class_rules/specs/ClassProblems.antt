@@ -1,5 +1,5 @@
 -- What is wrong with a class.
-use Rattle.std.specs.Prelude.{◌≡◌, ℕ, ◌<◌, ◌⊎◌, Bool, false, ◌&&◌, nat_le, if◌then◌else◌, List, [], ◌∷◌, ◌++◌, chars, codes, All, Any}
+use Rattle.std.specs.Prelude.{◌≡◌, ℕ, ◌+◌, ◌<◌, ◌≤◌, ◌⊎◌, Bool, false, ◌&&◌, nat_le, if◌then◌else◌, List, [], ◌∷◌, ◌++◌, chars, codes, All, Any}
 use Prim.Native.Char.{code}
 use Rattle.fancy_lex.specs.declared.flags.Flags.{Flags}
 use Rattle.fancy_syntax.specs.declared.span.Span.{Span}
@@ -12,7 +12,7 @@ use Rattle.class_rules.specs.declared.class_problem.CharacterKind.{CharacterKind
 use Rattle.class_rules.specs.declared.class_problem.CharacterKind.TheVariants.{Digit, UpperCase, LowerCase, Other}
 use Rattle.class_rules.specs.declared.class_problem.ClassFinding.{ClassFinding}
 use Rattle.class_rules.specs.declared.class_problem.ClassLook.{ClassLook}
-use Rattle.class_rules.specs.declared.class_problem.ClassLook.TheVariants.{Alternatives, PosixClass, WideRange, Word}
+use Rattle.class_rules.specs.declared.class_problem.ClassLook.TheVariants.{Alternatives, PosixClass, DoubledBackslashes, WideRange, Word}
 use Rattle.class_rules.specs.declared.class_problem.ClassProblem.{ClassProblem}
 use Rattle.class_rules.specs.declared.class_problem.ClassProblem.TheVariants as problem
 
@@ -49,6 +49,11 @@ IsCharacterAt source span c = (part : List ℕ) × IsTextAt source span part × 
 abbrev pub HasBar : List ℕ → Type 0
 HasBar source = (span : Span) × IsCharacterAt source span (code "|")
 
+-- the class has an escaped backslash in two places
+abbrev pub HasTwoBackslashes : List ℕ → Type 0
+HasTwoBackslashes source =
+    (one other : Span) × (one.end ≤ other.start) × IsTextAt source one (codes "\\\\") × IsTextAt source other (codes "\\\\")
+
 -- the rest is the text, or the text after a caret
 abbrev pub IsAfterCaret : List ℕ → List ℕ → Type 0
 IsAfterCaret text rest = (text ≡ rest) ⊎ (text ≡ codes "^" ++ rest)
@@ -78,10 +83,41 @@ IsWideRange source span =
     (part : List ℕ) × IsTextAt source span part
     × (first last : ℕ) × IsPlainRange part first last × AreOfSeveralKinds first last
 
+-- the part at the span begins with a backslash
+abbrev pub IsEscapeAt : List ℕ → Span → Type 0
+IsEscapeAt source span = (part rest : List ℕ) × IsTextAt source span part × (chars part ≡ code "\\" ∷ rest)
+
+-- the part at the span is a bar, directly between two escapes
+abbrev pub IsBarBetween : List ℕ → Span → Type 0
+IsBarBetween source bar =
+    IsCharacterAt source bar (code "|")
+    × (one other : Span) × (one.end ≡ bar.start) × (bar.end ≡ other.start) × IsEscapeAt source one × IsEscapeAt source other
+
+-- from the one to the other are four to seven characters of punctuation, one of which is the hyphen
+abbrev pub IsOverHyphen : ℕ → ℕ → Type 0
+IsOverHyphen first last =
+    IsBetween first last (code "-") × (code ")" ≤ first) × (last ≤ code "/") × (first + 2 < last)
+
+-- the range is from punctuation to punctuation, over digits or letters, in a class with `\w`
+abbrev pub IsOverWord : List ℕ → ℕ → ℕ → Type 0
+IsOverWord source first last =
+    (character_kind first ≡ Other) × (character_kind last ≡ Other) × (last < code "~") × AreOfSeveralKinds first last
+    × (span : Span) × IsTextAt source span (codes "\\w")
+
+-- the range from the one to the other is likely meant as a hyphen between the two
+abbrev pub IsMeantAsHyphen : List ℕ → ℕ → ℕ → Type 0
+IsMeantAsHyphen source first last = IsOverHyphen first last ⊎ IsOverWord source first last
+
+-- the part at the span is such a range, whose ends are written as themselves
+abbrev pub IsHyphenRange : List ℕ → Span → Type 0
+IsHyphenRange source span =
+    (part : List ℕ) × IsTextAt source span part × (first last : ℕ) × IsPlainRange part first last × IsMeantAsHyphen source first last
+
 -- what shows, at the span, that the class is likely meant as something else
 abbrev pub ShowsLook : List ℕ → Span → ClassLook → Type 0
 ShowsLook source span Alternatives = IsAll source span × HasBar source
 ShowsLook source span PosixClass = IsAll source span × IsBetweenColons source
+ShowsLook source span DoubledBackslashes = IsAll source span × HasTwoBackslashes source
 ShowsLook source span WideRange = IsWideRange source span
 ShowsLook source span Word = IsAll source span
 
@@ -102,6 +138,8 @@ IsProblemAt f casei source text span problem.Empty =
 IsProblemAt f casei source text span problem.DuplicateCharacters = IsNeedless f casei source span
 IsProblemAt f casei source text span (problem.SuspiciousClass look) = IsSuspicious f casei source span look
 IsProblemAt f casei source text span (problem.SuspiciousRange first last) = IsMixedRange f source span first last
+IsProblemAt f casei source text span problem.BarBetweenEscapes = IsBarBetween source span
+IsProblemAt f casei source text span problem.HyphenRange = IsHyphenRange source span
 IsProblemAt f casei source text span (problem.SubsumedBranch other branch) = ⊥
 
 -- each finding is a problem of the class

@@ -17,10 +17,10 @@ use std::slice;
 pub fn pieces(branch: &Expr) -> &[Expr]
     ensures { views result.now ≡ spec.pieces (view branch.now) }
 {
-    match branch {
-        Expr::Concat(trees) => trees,
-        _ => slice::from_ref(branch),
-    }
+    let Expr::Concat(trees) = branch else {
+        return slice::from_ref(branch);
+    };
+    trees
 }
 
 /// What the tree repeats; any other tree itself.

@@ -1,6 +1,7 @@
 //! What a class with needless items is likely meant as.
-ghost use Rattle.std.specs.Prelude.{IfOk, IfSome, IsTrue};
-ghost use Rattle.class_rules.specs.ClassProblems.{HasBar, HasNeedless, IsAfterCaret, IsBetweenColons, IsCharacterAt, IsWideRange, ShowsLook};
+ghost use Rattle.std.specs.Prelude.{◌≤◌, codes, IfOk, IfSome, IsTrue};
+ghost use Rattle.class_rules.specs.ClassProblems.{HasBar, HasNeedless, HasTwoBackslashes, IsAfterCaret, IsBetweenColons, IsCharacterAt, IsWideRange, ShowsLook};
+ghost use Rattle.class_rules.specs.ClassSource.{IsAll, IsTextAt};
 
 use crate::class_items::{ClassItem, items_of, push_ranges};
 use crate::class_problem::{ClassFinding, ClassLook, ClassProblem};
@@ -18,8 +19,28 @@ pub(crate) struct LookAt {
     pub(crate) look: ClassLook,
 }
 
+/// Whether the part at the span is this text.
+pub(crate) fn is_text_at(source: &str, span: Span, text: &str) -> bool
+    ensures { IsTrue result → IsTextAt source.now span text.now }
+{
+    let Some(part) = span.text(source) else {
+        return false;
+    };
+    part == text
+}
+
+/// The span of all of the text.
+fn all_of(source: &str) -> Span
+    ensures { IsAll source.now result }
+{
+    Span {
+        start: 0,
+        end: source.len(),
+    }
+}
+
 /// The character that the item is, if it is written as itself.
-fn plain_character(source: &str, item: ClassItem) -> Option<char>
+pub(crate) fn plain_character(source: &str, item: ClassItem) -> Option<char>
     ensures { IfSome result (IsCharacterAt source.now item.span) }
 {
     let (c, rest) = next(item.span.text(source)?)?;
@@ -61,6 +82,31 @@ fn has_bar(source: &str, items: &[ClassItem]) -> bool
         }
     }
     false
+}
+
+/// The first escaped backslash of the items from this position on.
+fn backslash_from(source: &str, items: &[ClassItem], position: usize) -> Option<Span>
+    ensures { IfSome result (λ span. (position ≤ span.start) × IsTextAt source.now span (codes "\\\\")) }
+{
+    for item in items {
+        if position <= item.span.start && is_text_at(source, item.span, r"\\") {
+            return Some(item.span);
+        }
+    }
+    None
+}
+
+/// Whether an escaped backslash is two of the items.
+fn has_two_backslashes(source: &str, items: &[ClassItem]) -> bool
+    ensures { IsTrue result → HasTwoBackslashes source.now }
+{
+    let Some(one) = backslash_from(source, items, 0) else {
+        return false;
+    };
+    let Some(_) = backslash_from(source, items, one.end) else {
+        return false;
+    };
+    true
 }
 
 /// Whether a letter or a digit is two of the items.
@@ -128,6 +174,16 @@ fn needless_ranges(
     Ok(ranges)
 }
 
+/// Whether a range of the class is likely meant as a hyphen.
+pub(crate) fn has_hyphen_range(findings: &[ClassFinding]) -> bool {
+    for one in findings {
+        if one.problem == ClassProblem::HyphenRange {
+            return true;
+        }
+    }
+    false
+}
+
 /// Whether an item can be left out.
 fn has_needless(findings: &[ClassFinding]) -> bool
     ensures { IsTrue result → HasNeedless findings.now }
@@ -141,7 +197,7 @@ fn has_needless(findings: &[ClassFinding]) -> bool
 }
 
 /// What the class is likely meant as, which has these findings. None if none of its items can be left out, or it seems to
-/// be meant as it is.
+/// be meant as it is, or one of its ranges is reported.
 pub(crate) fn class_look(
     class: ClassSource<'_>,
     findings: &[ClassFinding],
@@ -149,18 +205,19 @@ pub(crate) fn class_look(
     ensures needless { IfOk result (λ o. IfSome o (λ _. HasNeedless findings.now)) }
     ensures shows { IfOk result (λ o. IfSome o (λ found. ShowsLook class.entry.source.now found.span found.look)) }
 {
-    if !has_needless(findings) {
+    if !has_needless(findings) || has_hyphen_range(findings) {
         return Ok(None);
     }
     let Some(items) = items_of(class)? else {
         return Ok(None);
     };
-    let span = Span {
-        start: 0,
-        end: class.source.len(),
-    };
+    let span = all_of(class.source);
     if is_between_colons(class.source) {
         let look = ClassLook::PosixClass;
+        return Ok(Some(LookAt { span, look }));
+    }
+    if has_two_backslashes(class.source, &items) {
+        let look = ClassLook::DoubledBackslashes;
         return Ok(Some(LookAt { span, look }));
     }
     if has_bar(class.source, &items) {

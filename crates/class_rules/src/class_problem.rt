@@ -4,7 +4,6 @@ ghost use Rattle.class_rules.specs.ClassProblems as spec;
 
 use class_meaning::ClassErrorKind;
 use fancy_syntax::span::Span;
-use std::fmt;
 
 /// The kinds of characters that a range is expected to stay within.
 #[derive(Debug, Clone, Copy, PartialEq, Eq)]
@@ -50,6 +49,8 @@ pub enum ClassLook {
     Alternatives,
     /// A POSIX class without the brackets around it: the class begins and ends with a colon, as in `[:alpha:]`.
     PosixClass,
+    /// A class whose backslashes are doubled: it has an escaped backslash twice, as in `[\\w\\s]`.
+    DoubledBackslashes,
     /// A set with a range for each kind of character: one range is over several kinds, as in `[0-9a-fA-f]`.
     WideRange,
     /// A word: the class has a letter or a digit twice, as in `[http]`.
@@ -58,13 +59,15 @@ pub enum ClassLook {
 
 impl ClassLook {
     /// What is reported of the class.
-    fn message(self) -> &'static str {
+    pub fn message(self) -> &'static str {
         match self {
             ClassLook::Alternatives =>
                 "class with needless characters and a bar, as if for alternatives",
             ClassLook::PosixClass => {
                 "class that begins and ends with a colon, as a POSIX class without its outer brackets"
             }
+            ClassLook::DoubledBackslashes =>
+                r"class with `\\` twice, as if backslashes were doubled",
             ClassLook::WideRange => {
                 "range over several kinds of characters, which contains other parts of the class"
             }
@@ -79,6 +82,9 @@ impl ClassLook {
                 "write `(?:..|..)` for alternatives, or each character once without the bar"
             }
             ClassLook::PosixClass => "write `[[:..:]]` for a POSIX class, or each character once",
+            ClassLook::DoubledBackslashes => {
+                r"write one backslash for an escape, as in `\w`, or `\\` once for the character"
+            }
             ClassLook::WideRange => {
                 "write a range for each kind, as in `A-Za-z`, or a backslash before the hyphen"
             }
@@ -105,6 +111,10 @@ pub enum ClassProblem {
         first: CharacterKind,
         last: CharacterKind,
     },
+    /// A bar between two escapes, which are the rest of the class.
+    BarBetweenEscapes,
+    /// A range between punctuation that is likely meant as a hyphen.
+    HyphenRange,
     /// A branch of one character that another branch contains.
     SubsumedBranch {
         /// The number of the other branch, counted from 1.
@@ -112,30 +122,6 @@ pub enum ClassProblem {
         /// Where the other branch is.
         span: Span,
     },
-}
-
-/// The message of a report.
-impl fmt::Display for ClassProblem {
-    fn fmt<W: fmt::Write>(&self, f: &mut fmt::Formatter<W>) -> fmt::Result {
-        match self {
-            ClassProblem::Invalid(kind) => write!(
-                f,
-                "class that the matching engine refuses: {}",
-                kind.message()
-            ),
-            ClassProblem::Empty => f.write_str("class that contains no character"),
-            ClassProblem::DuplicateCharacters => {
-                f.write_str("characters that the rest of the class contains already")
-            }
-            ClassProblem::SuspiciousClass(look) => f.write_str(look.message()),
-            ClassProblem::SuspiciousRange { first, last } => {
-                write!(f, "range from {} to {}", first.name(), last.name())
-            }
-            ClassProblem::SubsumedBranch { other, .. } => {
-                write!(f, "branch whose characters branch {other} matches too")
-            }
-        }
-    }
 }
 
 /// A problem, and the part of the text that has it, in byte offsets.

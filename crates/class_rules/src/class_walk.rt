@@ -6,7 +6,7 @@ ghost use Rattle.class_rules.specs.ClassFindings as spec;
 ghost use Rattle.class_rules.specs.ClassFindings.{AreFoundIn, KeepsFound};
 ghost use Rattle.class_rules.specs.KnownClasses.{AddsProblem, AddsProblems};
 
-use crate::class_look::{LookAt, class_look};
+use crate::class_look::{LookAt, class_look, has_hyphen_range};
 use crate::class_problem::{ClassFinding, ClassProblem};
 use crate::known_classes::{ClassText, KnownClasses};
 use crate::subsumed::add_subsumed;
@@ -41,18 +41,18 @@ fn add_finding(
     Ok(())
 }
 
-/// Adds the findings of the class that the node is; if it looks like something else, without its items that can be left
+/// Adds the findings of the class that the node is; if it is likely meant otherwise, without its items that can be left
 /// out.
 fn add_findings(
     node: SpannedNode<'_>,
     findings: &[ClassFinding],
-    has_look: bool,
+    is_meant_otherwise: bool,
     found: &mut Vec<ClassFinding>,
 ) -> Result<(), AllocError>
     ensures { OnOk result (AddsProblems (spanned_of node.entry) findings.now found.old.items found.new.items) }
 {
     for finding in findings {
-        if has_look && finding.problem == ClassProblem::DuplicateCharacters {
+        if is_meant_otherwise && finding.problem == ClassProblem::DuplicateCharacters {
             continue;
         }
         add_finding(node, *finding, found)?;
@@ -79,7 +79,7 @@ fn add_of_class(
     let index = known.index_of(class)?;
     let findings = known.findings_at(index);
     let Some(LookAt { span, look }) = class_look(source, findings)? else {
-        add_findings(node, findings, false, found)?;
+        add_findings(node, findings, has_hyphen_range(findings), found)?;
         return Ok(());
     };
     let problem = ClassProblem::SuspiciousClass(look);

@@ -7,6 +7,7 @@ ghost use Rattle.class_rules.specs.ClassProblems.{AreProblems};
 use crate::class_items::items_of;
 use crate::class_problem::{ClassFinding, ClassProblem};
 use crate::class_source::ClassSource;
+use crate::misread::{add_bar, add_hyphens};
 use crate::mixed_range::add_mixed;
 use crate::needless::add_needless;
 use class_meaning::{CharacterSet, ClassErrorKind, ClassMeaning, characters_of_class};
@@ -73,6 +74,8 @@ fn item_findings(class: ClassSource<'_>) -> Result<Vec<ClassFinding>, AllocError
     };
     add_needless(class, &items, &mut found)?;
     add_mixed(class, &items, &mut found)?;
+    add_bar(class, &items, &mut found)?;
+    add_hyphens(class, &items, &mut found)?;
     Ok(found)
 }
 

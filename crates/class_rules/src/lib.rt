@@ -9,6 +9,7 @@ mod class_source;
 pub mod class_walk;
 mod covered;
 pub mod known_classes;
+mod misread;
 mod mixed_range;
 mod needless;
 mod subsumed;

@@ -54,7 +54,7 @@ fn is_plain(span: Span, start: char, end: char) -> bool {
 }
 
 /// The ends of the range that the text is, if no end is written as an escape.
-fn plain_range(text: &str) -> Option<(char, char)>
+pub(crate) fn plain_range(text: &str) -> Option<(char, char)>
     ensures { IfSome result (λ ends. IsPlainRange text.now ends.0 ends.1) }
 {
     let (start, rest) = next(text)?;
@@ -68,14 +68,14 @@ fn plain_range(text: &str) -> Option<(char, char)>
 }
 
 /// Whether the character is between the two, and neither of them.
-fn is_between(c: char, start: char, end: char) -> bool
+pub(crate) fn is_between(c: char, start: char, end: char) -> bool
     ensures { IsTrue result → IsBetween start end c }
 {
     start < c && c < end
 }
 
 /// Whether from the one character to the other are characters of several kinds.
-fn are_of_several_kinds(start: char, end: char) -> bool
+pub(crate) fn are_of_several_kinds(start: char, end: char) -> bool
     ensures { IsTrue result → AreOfSeveralKinds start end }
 {
     if CharacterKind::of(start) != CharacterKind::of(end) {

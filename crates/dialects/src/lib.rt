@@ -2,6 +2,7 @@
 #![tactic(auto)]
 
 mod class_item;
+pub mod dialect;
 pub mod difference;
 mod node_spelling;
 pub mod spelling;

@@ -1,13 +1,8 @@
--- Ranges of characters, written one after another, and what the engine makes of bytes and of nodes.
-use Rattle.std.proofs.Common.{◌≡◌, ℕ, ◌+◌, ◌<◌, ◌≤◌, List, length, map, chars, set, get_or, ap, sym, subst, ◌∙◌, zero-add}
-use Rattle.std.proofs.Common.{arith, Option, Some, None}
-use Rattle.std.proofs.Math.Seq.{paste}
-use Rattle.std.proofs.lemmas.List.{length-map, get_or-map}
-use Rattle.std.proofs.lemmas.List.Edits.{paste_more}
+-- What the engine makes of bytes and of nodes.
+use Rattle.std.proofs.Common.{◌≡◌, ℕ, List, chars, sym, subst, Option, Some, None}
 use Rattle.std.specs.Prelude.{MatchOption, IsSomeAnd, IfSome, IsCharBoundary}
 use Rattle.fancy_lex.specs.declared.flags.Flags.{Flags}
 use Rattle.fancy_grammar.specs.Tree.{Tree}
-use Rattle.regex_class.specs.Ranges.{Range}
 use Rattle.regex_syntax.specs.declared.Config.{Config}
 use Rattle.regex_syntax.specs.declared.error.Error.{Error}
 use Rattle.regex_syntax.specs.Reading.{Text}
@@ -16,22 +11,9 @@ use Rattle.class_meaning.specs.EnginePattern.{engine_pattern}
 use Rattle.class_meaning.specs.declared.character_set.CharacterSet.{CharacterSet}
 use Rattle.class_meaning.specs.declared.class_text.ClassMeaning.{ClassMeaning}
 use Rattle.class_meaning.specs.declared.class_text.ClassMeaning.TheVariants.{Characters, Refused, NotOneCharacter}
-use Rattle.fancy_c.specs.ClassRanges.{row, config_of, AreRangesOf, IsRefused, IsPattern, IsGiven, IsRead}
+use Rattle.fancy_c.specs.ClassRanges.{config_of, AreRangesOf, IsRefused, IsPattern, IsGiven, IsRead}
 use Rattle.fancy_c.specs.RowTree.{IsRowOf}
-use Rattle.fancy_c.specs.declared.class_ranges.CharacterRange.{CharacterRange}
 use Rattle.fancy_c.specs.declared.node.Node.{Node}
-
--- one more row
-pub range_put : (rows rows' : List CharacterRange) (l : List Range) (i : ℕ) (z : Range) (x : CharacterRange) →
-    x ≡ row (get_or l i z) → rows' ≡ paste rows 0 (map row l) i → length l ≤ length rows →
-    i < length l → set rows' i x ≡ paste rows 0 (map row l) (i + 1)
-range_put rows rows' l i z x is put capacity here =
-    let s = map row l in
-    let at : get_or s i (row z) ≡ row (get_or l i z) = get_or-map row l i z (row z) here in
-    ap (λ d. set d i x) put
-    ∙ ap (λ y. set (paste rows 0 s i) i y) (is ∙ sym at)
-    ∙ ap (λ k. set (paste rows 0 s i) k (get_or s i (row z))) (sym (zero-add i))
-    ∙ paste_more rows 0 s i (row z) (omega (arith, here, capacity)) (omega (arith, length-map l row, here))
 
 -- a set of characters has ranges
 ranges_of : (config : Config) (text : Text) (set : CharacterSet) → IsMeaningOf config text (Characters set) →

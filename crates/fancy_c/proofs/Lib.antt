@@ -2,6 +2,8 @@
 mod ReadLemmas
 mod TextLemmas
 mod NodeLemmas
+-- ---- items in a buffer
+mod BufferLemmas
 -- ---- a tree and its group information in the buffers
 mod RowLemmas
 mod NumberedLemmas
@@ -28,3 +30,5 @@ mod EscapeLemmas
 mod TextStartLemmas
 -- ---- the characters of a class or of another node
 mod ClassRangeLemmas
+-- ---- what is known of the matches of a pattern
+mod FactLemmas

@@ -30,7 +30,7 @@ texts_put d d' d'' xs ys o at put puts = puts ∙ ap (λ e. put_at e o ys) put �
 
 -- no more nodes are listed than the tree has
 mutual
-  listed_nodes : (t : Tree) → length (listed t) ≤ nodes t
+  pub listed_nodes : (t : Tree) → length (listed t) ≤ nodes t
   listed_nodes (leaf l) = omega arith
   listed_nodes (over (label.ast_group name position) t) = omega arith
   listed_nodes (over w t) = omega (arith, listed_nodes t)

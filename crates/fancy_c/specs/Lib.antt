@@ -12,3 +12,4 @@ pub mod TriviumRows
 pub mod EscapedText
 pub mod TextStart
 pub mod ClassRanges
+pub mod FactRows

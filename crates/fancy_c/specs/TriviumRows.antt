@@ -5,7 +5,7 @@ use Rattle.fancy_grammar.specs.GroupInfo.{GroupInfo}
 use Rattle.fancy_grammar.specs.Tree.{Tree}
 use Rattle.fancy_grammar.specs.Promises.{AreParsedTrivia}
 use Rattle.fancy_grammar.specs.Trivia.{Trivium, TriviumKind, comment, line_comment, flags, opening, closing}
-use Rattle.fancy_grammar.specs.Trivia.{dropped}
+use Rattle.fancy_grammar.specs.Trivia.{dropped, inner_comment, inner_line_comment}
 use Rattle.fancy_syntax.specs.declared.span.Span.{Span}
 use Rattle.fancy_c.specs.CallResult.{IsTreeOfBytes}
 use Rattle.fancy_lex.specs.Flags.{bits_of}
@@ -20,6 +20,8 @@ kind_number (flags before after) = number.TRIVIUM_INLINE_FLAGS
 kind_number (opening around inside) = number.TRIVIUM_OPENING
 kind_number closing = number.TRIVIUM_CLOSING
 kind_number dropped = number.TRIVIUM_DROPPED
+kind_number inner_comment = number.TRIVIUM_INNER_COMMENT
+kind_number inner_line_comment = number.TRIVIUM_INNER_LINE_COMMENT
 
 -- the bits of the flags before inline flags or around a flag group
 abbrev pub flags_before : TriviumKind → ℕ
@@ -29,6 +31,8 @@ flags_before comment = 0
 flags_before line_comment = 0
 flags_before closing = 0
 flags_before dropped = 0
+flags_before inner_comment = 0
+flags_before inner_line_comment = 0
 
 -- the bits of the flags after inline flags or in a flag group
 abbrev pub flags_after : TriviumKind → ℕ
@@ -38,6 +42,8 @@ flags_after comment = 0
 flags_after line_comment = 0
 flags_after closing = 0
 flags_after dropped = 0
+flags_after inner_comment = 0
+flags_after inner_line_comment = 0
 
 abbrev pub row : Trivium → TriviumRow
 row x = record {

@@ -10,6 +10,7 @@ pub mod call_flags;
 pub mod call_result;
 pub mod class_ranges;
 pub mod escape;
+pub mod facts;
 pub mod format;
 pub mod group_name;
 mod group_numbers;

@@ -30,6 +30,10 @@ pub const TRIVIUM_OPENING: u32 = 4;
 pub const TRIVIUM_CLOSING: u32 = 5;
 /// A part that leaves nothing in the tree, such as a quantifier that an Empty ignores.
 pub const TRIVIUM_DROPPED: u32 = 6;
+/// A comment inside a token, `(?#..)`.
+pub const TRIVIUM_INNER_COMMENT: u32 = 7;
+/// A comment inside a token, from `#` through the end of its line.
+pub const TRIVIUM_INNER_LINE_COMMENT: u32 = 8;
 
 // Callers in C compare with these numbers.
 const _: () = prove!(
@@ -37,6 +41,8 @@ const _: () = prove!(
 );
 
 const _: () = prove!(TRIVIUM_OPENING == 4 && TRIVIUM_CLOSING == 5 && TRIVIUM_DROPPED == 6);
+
+const _: () = prove!(TRIVIUM_INNER_COMMENT == 7 && TRIVIUM_INNER_LINE_COMMENT == 8);
 
 /// A part of a pattern that no node of its tree has.
 #[repr(C)]
@@ -46,7 +52,7 @@ pub struct TriviumRow {
     pub start: usize,
     /// One past the offset of its last byte.
     pub stop: usize,
-    /// `TRIVIUM_COMMENT` to `TRIVIUM_DROPPED`.
+    /// `TRIVIUM_COMMENT` to `TRIVIUM_INNER_LINE_COMMENT`.
     pub kind: u32,
     /// The bits of the flags that hold before inline flags, or around a flag group; else 0.
     pub flags_before: u32,
@@ -86,6 +92,8 @@ fn row(trivium: &Trivium) -> TriviumRow
         },
         TriviumKind::Closing => bare_row(trivium.span, TRIVIUM_CLOSING),
         TriviumKind::Dropped => bare_row(trivium.span, TRIVIUM_DROPPED),
+        TriviumKind::InnerComment => bare_row(trivium.span, TRIVIUM_INNER_COMMENT),
+        TriviumKind::InnerLineComment => bare_row(trivium.span, TRIVIUM_INNER_LINE_COMMENT),
     }
 }
 

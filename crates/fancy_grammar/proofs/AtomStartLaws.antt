@@ -98,7 +98,7 @@ verb_slice t =
     choose_both P (strip_word (codes "SKIP)") t) _ _ (word_slice (codes "SKIP)") t) (
     choose_both P (strip_word (codes "PRUNE)") t) _ _ (word_slice (codes "PRUNE)") t) tt)))))
 
-verb_rest : (t : Text) (p : BacktrackingControlVerb × Text) → verb_at t ≡ Some p → Slice t p.1
+pub verb_rest : (t : Text) (p : BacktrackingControlVerb × Text) → verb_at t ≡ Some p → Slice t p.1
 verb_rest t p e = subst (VerbSlice t) e (verb_slice t)
 
 verb_past : (s : State) (t : Text) (p : BacktrackingControlVerb × Text) → Past s t → verb_at t ≡ Some p → Past s p.1

@@ -51,6 +51,7 @@ pub mod ParsedTreeLaws
 pub mod TriviaUnique
 pub mod TriviaAppend
 pub mod TriviaLemmas
+mod StartLaws
 pub mod TriviaLaws
 -- ---- what a parse promises
 pub mod PromiseLaws

@@ -13,7 +13,7 @@ use Rattle.fancy_grammar.specs.Trivia.{Trivium, IsTriviaOf, AreInOrder}
 use Rattle.fancy_grammar.proofs.BoundLaws.{bounded}
 use Rattle.fancy_grammar.proofs.ParsedSpans.{only_spans, spans_of_nodes, spans_nest, spans_cut}
 use Rattle.fancy_grammar.proofs.ParsedTreeLaws.{parsed_tree_with, groups_of_raw}
-use Rattle.fancy_grammar.proofs.TriviaLaws.{trivia_in_order, trivia_are_parts, trivia_cut}
+use Rattle.fancy_grammar.proofs.TriviaLaws.{trivia_in_order, trivia_are_parts, trivia_cut, trivia_fill}
 use Rattle.fancy_grammar.proofs.TriviaUnique.{only_trivia}
 use Rattle.fancy_grammar.proofs.Verdict.{only_tree, no_error}
 
@@ -45,6 +45,7 @@ module _ {f : Flags} {pattern : List ℕ} (utf8 : IsUtf8 pattern) where
     parts = trivia_are_parts l h;
     in_order = subst (λ n. AreInOrder 0 n l) (bytes_chars pattern utf8) (trivia_in_order l h);
     cut = trivia_cut l utf8 h;
+    every_byte = trivia_fill l h;
   }
 
 -- if e is d and f is g, what is true of d under g is true of e under f

@@ -199,7 +199,7 @@ condition_there d s = by_text s.rest refl
         is_paren : (c == code "(") ≡ true → c ≡ code "("
         is_paren i = grind (arith, nat_tests)
 
-condition_slice : (s : State) (w : Text) → condition_text s ≡ Some w → Slice s.rest w
+pub condition_slice : (s : State) (w : Text) → condition_text s ≡ Some w → Slice s.rest w
 condition_slice s w = by_paren (strip (code "(") s.rest) refl
   where
     by_layout : (t : Text) → Slice s.rest t → (k : Skipped) → SkippedSlice t k →

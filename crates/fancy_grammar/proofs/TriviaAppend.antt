@@ -1,5 +1,5 @@
 -- What a derivation adds to a list of trivia does not depend on the list.
-use Rattle.std.proofs.Common.{◌≡◌, ℕ, zero, suc, ◌+◌, ◌==◌, Bool, true, false, if◌then◌else◌, List, [], ◌∷◌, ◌++◌}
+use Rattle.std.proofs.Common.{◌≡◌, ℕ, zero, suc, ◌+◌, ◌==◌, nat_lt, Bool, true, false, if◌then◌else◌, List, [], ◌∷◌, ◌++◌}
 use Rattle.std.proofs.Common.{Option, Some, None, refl, sym, ap, ◌∙◌, append_assoc, append-nil}
 use Rattle.fancy_lex.specs.Reading.{choose}
 use Rattle.fancy_lex.specs.Text.{Text, bytes, reach_of}
@@ -14,6 +14,7 @@ use Rattle.fancy_grammar.specs.Spans.{condition_span, counts_ahead, end_of, if_d
 use Rattle.fancy_grammar.specs.State.{State, at, Outcome, done, failed}
 use Rattle.fancy_grammar.specs.Tree.{Tree}
 use Rattle.fancy_grammar.specs.Trivia.{Passed, part, dropped, comments_at, flags_of_atom, opening_of, closing_of}
+use Rattle.fancy_grammar.specs.Trivia.{inner_at, inner_of_counts, after_layout}
 use Rattle.fancy_grammar.specs.Trivia.{with_dropped, filled, layout_end, counted_trivia, quant_trivia, adjacent_trivia}
 use Rattle.fancy_grammar.specs.Trivia.{quants_trivia, leaves_condition, alternation_trivia, branches_trivia, branch_trivia}
 use Rattle.fancy_grammar.specs.Trivia.{pieces_trivia, piece_trivia, atom_trivia, atom_of_trivia, inside_trivia, body_trivia}
@@ -32,40 +33,65 @@ filled_after : (l : List Passed) (start end : ℕ) (p q : List Passed) →
     filled start end l (p ++ q) ≡ p ++ filled start end l q
 filled_after [] start end p q = dropped_after start end p q
 filled_after (x ∷ l) start end p q =
-    let r = with_dropped start x.trivium.span.start q in
-    ap (filled x.trivium.span.end end l)
-    (ap (λ z. z ++ x ∷ []) (dropped_after start x.trivium.span.start p q) ∙ append_assoc p r (x ∷ []))
-    ∙ filled_after l x.trivium.span.end end p (r ++ x ∷ [])
+    by_test (nat_lt start x.trivium.span.start) (filled_after l start end p (q ++ x ∷ []))
+    (filled_after l x.trivium.span.end end p (r ++ x ∷ []))
+  where
+    r : List Passed
+    r = with_dropped start x.trivium.span.start q
+
+    by_test : (b : Bool) → filled start end l (p ++ (q ++ x ∷ [])) ≡ p ++ filled start end l (q ++ x ∷ []) →
+        filled x.trivium.span.end end l (p ++ (r ++ x ∷ [])) ≡ p ++ filled x.trivium.span.end end l (r ++ x ∷ []) →
+        (if b then filled start end l ((p ++ q) ++ x ∷ [])
+        else filled x.trivium.span.end end l (with_dropped start x.trivium.span.start (p ++ q) ++ x ∷ []))
+        ≡ p ++ (if b then filled start end l (q ++ x ∷ []) else filled x.trivium.span.end end l (r ++ x ∷ []))
+    by_test true inner after = ap (filled start end l) (append_assoc p q (x ∷ [])) ∙ inner
+    by_test false inner after =
+        ap (filled x.trivium.span.end end l)
+        (ap (λ z. z ++ x ∷ []) (dropped_after start x.trivium.span.start p q) ∙ append_assoc p r (x ∷ []))
+        ∙ after
+
+-- two more lists
+two_after : (p q k l : List Passed) → ((p ++ q) ++ k) ++ l ≡ p ++ ((q ++ k) ++ l)
+two_after p q k l = ap (λ z. z ++ l) (append_assoc p q k) ∙ append_assoc p (q ++ k) l
 
 -- ---- quantifiers
 
-counted_after : (start : ℕ) (a : Tree) (s : State) (p q : List Passed) (x : Counts × Text) →
-    counted_trivia start a s (p ++ q) x ≡ p ++ counted_trivia start a s q x
-counted_after start a s p q (c, t) = by_test (is_repeatable s.flags a)
+counted_after : (w : Text) (a : Tree) (s : State) (p q : List Passed) (x : Counts × Text) →
+    counted_trivia w a s (p ++ q) x ≡ p ++ counted_trivia w a s q x
+counted_after w a s p q (c, t) = by_test (is_repeatable s.flags a)
   where
+    -- the comments in the counts, and those after them
+    i : List Passed
+    i = inner_of_counts c w t
+
     l : List Passed
     l = comments_at (at s t)
 
-    counts_after : with_dropped start (reach_of t) (p ++ q) ++ l ≡ p ++ (with_dropped start (reach_of t) q ++ l)
+    both_after : (z : List Passed) → ((p ++ z) ++ i) ++ l ≡ p ++ ((z ++ i) ++ l)
+    both_after z = two_after p z i l
+
+    counts_after : (with_dropped (reach_of w) (reach_of t) (p ++ q) ++ i) ++ l
+        ≡ p ++ ((with_dropped (reach_of w) (reach_of t) q ++ i) ++ l)
     counts_after =
-        ap (λ z. z ++ l) (dropped_after start (reach_of t) p q) ∙ append_assoc p (with_dropped start (reach_of t) q) l
+        ap (λ z. (z ++ i) ++ l) (dropped_after (reach_of w) (reach_of t) p q)
+        ∙ both_after (with_dropped (reach_of w) (reach_of t) q)
 
     by_outcome : (o : Outcome Suffix) →
-        (let r = with_dropped start (reach_of t) (p ++ q) ++ l in
+        (let r = (with_dropped (reach_of w) (reach_of t) (p ++ q) ++ i) ++ l in
         if_done o (λ m v. with_dropped (layout_end (at s t)) (reach_of v.rest) r) r)
-        ≡ p ++ (let r = with_dropped start (reach_of t) q ++ l in
+        ≡ p ++ (let r = (with_dropped (reach_of w) (reach_of t) q ++ i) ++ l in
         if_done o (λ m v. with_dropped (layout_end (at s t)) (reach_of v.rest) r) r)
     by_outcome (done m v) =
         ap (with_dropped (layout_end (at s t)) (reach_of v.rest)) counts_after
-        ∙ dropped_after (layout_end (at s t)) (reach_of v.rest) p (with_dropped start (reach_of t) q ++ l)
+        ∙ dropped_after (layout_end (at s t)) (reach_of v.rest) p ((with_dropped (reach_of w) (reach_of t) q ++ i) ++ l)
     by_outcome (failed e) = counts_after
 
     by_test : (b : Bool) →
-        (if b then (p ++ q) ++ l else let r = with_dropped start (reach_of t) (p ++ q) ++ l in
+        (if b then ((p ++ q) ++ i) ++ l else let r = (with_dropped (reach_of w) (reach_of t) (p ++ q) ++ i) ++ l in
         if_done (suffix (at s t) c) (λ m v. with_dropped (layout_end (at s t)) (reach_of v.rest) r) r)
-        ≡ p ++ (if b then q ++ l else let r = with_dropped start (reach_of t) q ++ l in
+        ≡ p ++ (if b then (q ++ i) ++ l else let r = (with_dropped (reach_of w) (reach_of t) q ++ i) ++ l in
         if_done (suffix (at s t) c) (λ m v. with_dropped (layout_end (at s t)) (reach_of v.rest) r) r)
-    by_test true = append_assoc p q l
+    by_test true = both_after q
     by_test false = by_outcome (suffix (at s t) c)
 
 quant_after : (a : Tree) (s : State) (p q : List Passed) → quant_trivia a s (p ++ q) ≡ p ++ quant_trivia a s q
@@ -76,12 +102,12 @@ quant_after a s p q =
     comments_after = append_assoc p q (comments_at s)
 
     by_counts : (o : Option (Counts × Text)) →
-        choose o (counted_trivia (layout_end s) a s ((p ++ q) ++ comments_at s)) ((p ++ q) ++ comments_at s)
-        ≡ p ++ choose o (counted_trivia (layout_end s) a s (q ++ comments_at s)) (q ++ comments_at s)
+        choose o (counted_trivia (after_layout s) a s ((p ++ q) ++ comments_at s)) ((p ++ q) ++ comments_at s)
+        ≡ p ++ choose o (counted_trivia (after_layout s) a s (q ++ comments_at s)) (q ++ comments_at s)
     by_counts None = comments_after
     by_counts (Some x) =
-        ap (λ z. counted_trivia (layout_end s) a s z x) comments_after
-        ∙ counted_after (layout_end s) a s p (q ++ comments_at s) x
+        ap (λ z. counted_trivia (after_layout s) a s z x) comments_after
+        ∙ counted_after (after_layout s) a s p (q ++ comments_at s) x
 
 adjacent_after : (k : ℕ) (a : Tree) (s : State) (p q : List Passed) →
     adjacent_trivia k a s (p ++ q) ≡ p ++ adjacent_trivia k a s q
@@ -169,31 +195,46 @@ mutual
   atom_of_after : {k : AtomStart} {d : ℕ} {s : State} {o : Outcome Tree} (a : AtomOf k d s o) (p q : List Passed) →
       atom_of_trivia a (p ++ q) ≡ p ++ atom_of_trivia a q
   atom_of_after a_nothing p q = refl
-  atom_of_after {s} {o} a_read p q = append_assoc p q (flags_of_atom s o)
+  atom_of_after {s} {o} a_read p q = two_after p q (flags_of_atom s o) (inner_at s (end_of o))
   atom_of_after {s} {o} (a_group {t} {h} i) p q =
-      ap (λ z. inside_trivia i z ++ closing_of h (end_of o)) (append_assoc p q (opening_of h s t))
-      ∙ ap (λ z. z ++ closing_of h (end_of o)) (inside_after i p (q ++ opening_of h s t))
-      ∙ append_assoc p (inside_trivia i (q ++ opening_of h s t)) (closing_of h (end_of o))
+      let k = inner_at s (reach_of t.rest) in
+      let r = (q ++ opening_of h s t) ++ k in
+      ap (λ z. inside_trivia i z ++ closing_of h (end_of o)) (two_after p q (opening_of h s t) k)
+      ∙ ap (λ z. z ++ closing_of h (end_of o)) (inside_after i p r)
+      ∙ append_assoc p (inside_trivia i r) (closing_of h (end_of o))
   atom_of_after {s} {o} (a_condition {t} {v} i b) p q =
-      let r = with_dropped (reach_of s.rest) (reach_of t.rest) q in
+      let k = inner_at s (reach_of t.rest) in
+      let d = with_dropped (reach_of s.rest) (reach_of t.rest) q in
+      let r = d ++ k in
       conditional_after (leaves_condition b) (reach_of v.rest + 1) (end_of o) (body_trivia b []) p _ (inside_trivia i r) _ _
-      (ap (body_trivia b) (inside_after i p q) ∙ body_after b p (inside_trivia i q))
-      (ap (λ z. filled (reach_of v.rest + 1) (end_of o) (body_trivia b []) (inside_trivia i z))
+      (ap (λ z. body_trivia b (inside_trivia i z)) (append_assoc p q k)
+      ∙ ap (body_trivia b) (inside_after i p (q ++ k)) ∙ body_after b p (inside_trivia i (q ++ k)))
+      (ap (λ z. filled (reach_of v.rest + 1) (end_of o) (body_trivia b []) (inside_trivia i (z ++ k)))
       (dropped_after (reach_of s.rest) (reach_of t.rest) p q)
+      ∙ ap (λ z. filled (reach_of v.rest + 1) (end_of o) (body_trivia b []) (inside_trivia i z)) (append_assoc p d k)
       ∙ ap (filled (reach_of v.rest + 1) (end_of o) (body_trivia b [])) (inside_after i p r)
       ∙ filled_after (body_trivia b []) (reach_of v.rest + 1) (end_of o) p (inside_trivia i r))
-  atom_of_after (condition_error i) p q = inside_after i p q
+  atom_of_after {s} (condition_error {t} i) p q =
+      let k = inner_at s (reach_of t.rest) in ap (inside_trivia i) (append_assoc p q k) ∙ inside_after i p (q ++ k)
   atom_of_after {s} {o} (a_body {t} b) p q =
       let start = (condition_span s t).start in
-      let r = with_dropped (reach_of s.rest) start q in
+      let k = inner_at s start in
+      let d = with_dropped (reach_of s.rest) start q in
+      let r = d ++ k in
       conditional_after (leaves_condition b) (reach_of t.rest + 1) (end_of o) (body_trivia b []) p _ r _ _
-      (body_after b p q)
-      (ap (filled (reach_of t.rest + 1) (end_of o) (body_trivia b [])) (dropped_after (reach_of s.rest) start p q)
+      (ap (body_trivia b) (append_assoc p q k) ∙ body_after b p (q ++ k))
+      (ap (λ z. filled (reach_of t.rest + 1) (end_of o) (body_trivia b []) (z ++ k))
+      (dropped_after (reach_of s.rest) start p q)
+      ∙ ap (filled (reach_of t.rest + 1) (end_of o) (body_trivia b [])) (append_assoc p d k)
       ∙ filled_after (body_trivia b []) (reach_of t.rest + 1) (end_of o) p r)
-  atom_of_after (two_branches b e m) p q =
-      ap (branch_trivia m) (branch_after b p q) ∙ branch_after m p (branch_trivia b q)
-  atom_of_after (one_branch b e) p q = branch_after b p q
-  atom_of_after (absent_error b) p q = branch_after b p q
+  atom_of_after {s} (two_branches {t} b e m) p q =
+      let k = inner_at s (reach_of t.rest) in
+      ap (λ z. branch_trivia m (branch_trivia b z)) (append_assoc p q k)
+      ∙ ap (branch_trivia m) (branch_after b p (q ++ k)) ∙ branch_after m p (branch_trivia b (q ++ k))
+  atom_of_after {s} (one_branch {t} b e) p q =
+      let k = inner_at s (reach_of t.rest) in ap (branch_trivia b) (append_assoc p q k) ∙ branch_after b p (q ++ k)
+  atom_of_after {s} (absent_error {t} b) p q =
+      let k = inner_at s (reach_of t.rest) in ap (branch_trivia b) (append_assoc p q k) ∙ branch_after b p (q ++ k)
 
   inside_after : {d : ℕ} {s : State} {o : Outcome Tree} (a : Inside d s o) (p q : List Passed) →
       inside_trivia a (p ++ q) ≡ p ++ inside_trivia a q

@@ -15,7 +15,7 @@ use Rattle.fancy_grammar.specs.Join.{is_empty}
 use Rattle.fancy_grammar.specs.Spans.{condition_span, end_of, if_done}
 use Rattle.fancy_grammar.specs.State.{State, Outcome}
 use Rattle.fancy_grammar.specs.Tree.{Tree}
-use Rattle.fancy_grammar.specs.Trivia.{Trivium, Passed, IsTriviaOf, located, kept, comments_at, flags_of_atom}
+use Rattle.fancy_grammar.specs.Trivia.{Trivium, Passed, IsTriviaOf, located, kept, comments_at, flags_of_atom, inner_at}
 use Rattle.fancy_grammar.specs.Trivia.{opening_of, closing_of, with_dropped, filled, leaves_condition}
 use Rattle.fancy_grammar.specs.Trivia.{quants_trivia, alternation_trivia, branches_trivia, branch_trivia, pieces_trivia}
 use Rattle.fancy_grammar.specs.Trivia.{piece_trivia, atom_trivia, atom_of_trivia, inside_trivia, body_trivia, whole_trivia}
@@ -94,42 +94,55 @@ mutual
   of_same : {k : AtomStart} {d : ℕ} {s z : State} {o q : Outcome Tree} (a : AtomOf k d s o) (b : AtomOf k d z q)
       (p : List Passed) → s ≡ z → atom_of_trivia a p ≡ atom_of_trivia b p
   of_same a_nothing a_nothing p e = refl
-  of_same {o} a_read a_read p e = λ i. p ++ flags_of_atom (e i) o
+  of_same {o} a_read a_read p e = λ i. (p ++ flags_of_atom (e i) o) ++ inner_at (e i) (end_of o)
   of_same {s} (a_group {t} {h} a) (a_group b) p e =
       let q = of_unique (a_group a) (a_group b) e in
-      let x = inside_same a b (p ++ opening_of h s t) refl ∙ ap (λ w. inside_trivia b (p ++ opening_of h w t)) e in
+      let around : State → List Passed = λ w. (p ++ opening_of h w t) ++ inner_at w (reach_of t.rest) in
+      let x = inside_same a b (around s) refl ∙ ap (λ w. inside_trivia b (around w)) e in
       λ i. x i ++ closing_of h (end_of (q i))
   of_same {s} (a_condition {t} i a) (a_condition j b) p e =
       let h = state_of (inside_unique i j refl) in
       let q = of_unique (a_condition i a) (a_condition j b) e in
       let only = leaves_same a b h in
-      let around : State → List Passed = λ w. with_dropped (reach_of w.rest) (reach_of t.rest) p in
+      let around : State → List Passed =
+      λ w. with_dropped (reach_of w.rest) (reach_of t.rest) p ++ inner_at w (reach_of t.rest) in
       let before = inside_same i j (around s) refl ∙ ap (λ w. inside_trivia j (around w)) e in
       let alone = body_same a b [] h in
-      let both = body_same a b (inside_trivia i p) h ∙ ap (body_trivia b) (inside_same i j p refl) in
+      let both =
+      body_same a b (inside_trivia i (p ++ inner_at s (reach_of t.rest))) h
+      ∙ ap (body_trivia b) (inside_same i j (p ++ inner_at s (reach_of t.rest)) refl
+      ∙ ap (λ w. inside_trivia j (p ++ inner_at w (reach_of t.rest))) e) in
       λ k. if only k then filled (reach_of (h k).rest + 1) (end_of (q k)) (alone k) (before k) else both k
   of_same (a_condition i a) (condition_error j) p e = absurd (done_or_failed (inside_unique i j refl))
   of_same (condition_error i) (a_condition j b) p e = absurd (done_or_failed (sym (inside_unique i j refl)))
-  of_same (condition_error i) (condition_error j) p e = inside_same i j p refl
-  of_same (a_body {t} a) (a_body b) p e =
+  of_same {s} (condition_error {t} i) (condition_error j) p e =
+      inside_same i j (p ++ inner_at s (reach_of t.rest)) refl ∙ ap (λ w. inside_trivia j (p ++ inner_at w (reach_of t.rest))) e
+  of_same {s} (a_body {t} a) (a_body b) p e =
       let q = of_unique (a_body a) (a_body b) e in
       let only = leaves_same a b refl in
       let alone = body_same a b [] refl in
-      let both = body_same a b p refl in
+      let start : State → ℕ = λ w. (condition_span w t).start in
+      let both =
+      body_same a b (p ++ inner_at s (start s)) refl ∙ ap (λ w. body_trivia b (p ++ inner_at w (start w))) e in
       λ k.
-      let before = with_dropped (reach_of (e k).rest) (condition_span (e k) t).start p in
+      let w = e k in
+      let before = with_dropped (reach_of w.rest) (start w) p ++ inner_at w (start w) in
       if only k then filled (reach_of t.rest + 1) (end_of (q k)) (alone k) before else both k
-  of_same (two_branches a f m) (two_branches b g l) p e =
+  of_same {s} (two_branches {t} a f m) (two_branches b g l) p e =
       let h = branch_unique a b refl in
-      let x = branch_same m l (branch_trivia a p) cc in x ∙ ap (branch_trivia l) (branch_same a b p refl)
+      let q = p ++ inner_at s (reach_of t.rest) in
+      let x = branch_same m l (branch_trivia a q) cc in
+      x ∙ ap (branch_trivia l) (branch_same a b q refl ∙ ap (λ w. branch_trivia b (p ++ inner_at w (reach_of t.rest))) e)
   of_same (two_branches a f m) (one_branch b g) p e = let h = branch_unique a b refl in absurd cc
   of_same (two_branches a f m) (absent_error b) p e = absurd (done_or_failed (branch_unique a b refl))
   of_same (one_branch a f) (two_branches b g l) p e = let h = branch_unique a b refl in absurd cc
-  of_same (one_branch a f) (one_branch b g) p e = branch_same a b p refl
+  of_same {s} (one_branch {t} a f) (one_branch b g) p e =
+      branch_same a b (p ++ inner_at s (reach_of t.rest)) refl ∙ ap (λ w. branch_trivia b (p ++ inner_at w (reach_of t.rest))) e
   of_same (one_branch a f) (absent_error b) p e = absurd (done_or_failed (branch_unique a b refl))
   of_same (absent_error a) (two_branches b g l) p e = absurd (done_or_failed (sym (branch_unique a b refl)))
   of_same (absent_error a) (one_branch b g) p e = absurd (done_or_failed (sym (branch_unique a b refl)))
-  of_same (absent_error a) (absent_error b) p e = branch_same a b p refl
+  of_same {s} (absent_error {t} a) (absent_error b) p e =
+      branch_same a b (p ++ inner_at s (reach_of t.rest)) refl ∙ ap (λ w. branch_trivia b (p ++ inner_at w (reach_of t.rest))) e
 
   inside_same : {d : ℕ} {s z : State} {o q : Outcome Tree} (a : Inside d s o) (b : Inside d z q) (p : List Passed) →
       s ≡ z → inside_trivia a p ≡ inside_trivia b p

@@ -30,6 +30,7 @@ pub mod References
 -- ---- the spans of nodes
 pub mod Spans
 pub mod Trivia
+pub mod Segments
 -- ---- what a parse promises
 pub mod Promises
 -- ---- printing, and how a printed text reads

@@ -8,6 +8,7 @@ use Rattle.fancy_grammar.specs.Grammar.{DerivesTree}
 use Rattle.fancy_grammar.specs.GroupInfo.{GroupInfo}
 use Rattle.fancy_grammar.specs.ParseResult.{IsTreeOf, IsErrorOf, IsOnlyError, IsPositionedIn}
 use Rattle.fancy_grammar.specs.ParsedTree.{IsParsedTreeWith, HasGroupsOf, IsSmall}
+use Rattle.fancy_grammar.specs.Segments.{HasEveryByte}
 use Rattle.fancy_grammar.specs.Preorder.{preorder}
 use Rattle.fancy_grammar.specs.Spans.{Span, AreSpansOf, IsCutOut, Nests}
 use Rattle.fancy_grammar.specs.Tree.{Tree}
@@ -53,6 +54,8 @@ pub record AreParsedTrivia (f : Flags) (pattern : List ℕ) (l : List Trivium) :
   pub in_order : AreInOrder 0 (length pattern) l
   -- each begins and ends at character boundaries
   pub cut : AllByRecursion (λ x. IsCutOut pattern x.span) l
+  -- each byte that is in none of them is in a leaf, in own text of a node, or is whitespace that is ignored
+  pub every_byte : HasEveryByte (chars pattern) l
 
 -- the error that a parse returns
 pub record IsParseError (f : Flags) (pattern : List ℕ) (e : Error) : Type 0 where

@@ -1,14 +1,20 @@
--- What a tree does not hold, given by the derivation that reads it: comments between the parts of a pattern, inline
--- flags, the parentheses of groups that make no node, quantifiers that an Empty ignores, and all but the condition of a
--- conditional whose branches are both Empty, in the order of the pattern. A comment inside a token, such as one between
--- the digits of a quantifier or after the parenthesis of a group, belongs to the token.
-use Rattle.std.specs.Prelude.{◌≡◌, ◌≤◌, ℕ, zero, suc, ◌+◌, ◌==◌, Bool, true, false, not, ◌&&◌, List, [], ◌∷◌, ◌++◌}
-use Rattle.std.specs.Prelude.{None, map, if◌then◌else◌, ⊤}
+-- What a tree does not hold, given by the derivation that reads it: comments, inline flags, the parentheses of groups that
+-- make no node, quantifiers that an Empty ignores, and all but the condition of a conditional whose branches are both Empty,
+-- in the order of the pattern. A comment inside a token, such as one between the digits of a quantifier or after the
+-- parenthesis of a group, is of a kind of its own, and after the part that the token is, if it is one.
+use Rattle.std.specs.Prelude.{◌≡◌, ◌≤◌, ◌⊎◌, ℕ, zero, suc, ◌+◌, ◌==◌, nat_lt, Bool, true, false, not, ◌&&◌, List, []}
+use Rattle.std.specs.Prelude.{◌∷◌, ◌++◌, None, Some, map, if◌then◌else◌, codes, slice_range}
+use Rattle.std.specs.List.{AllByRecursion}
 use Prim.Native.Char.{code}
 use Rattle.fancy_lex.specs.Comments.{Comment, comments}
+use Rattle.fancy_lex.specs.FlagLetters.{Letters, inline_flags, flag_group as scoped}
+use Rattle.fancy_lex.specs.LetterSteps.{letters}
+use Rattle.fancy_lex.specs.Quantifier.{counts}
+use Rattle.fancy_lex.specs.TokenComments.{token_comments, escape_comments, class_comments}
+use Rattle.fancy_lex.specs.Characters.{◌∈◌}
 use Rattle.fancy_lex.specs.Layout.{IsComment, IsLineComment}
-use Rattle.fancy_lex.specs.LayoutSteps.{past_layout}
-use Rattle.fancy_lex.specs.Reading.{choose}
+use Rattle.fancy_lex.specs.LayoutSteps.{past_layout, layout, rest}
+use Rattle.fancy_lex.specs.Reading.{choose, gives}
 use Rattle.fancy_lex.specs.Text.{Text, bytes, reach_of}
 use Rattle.fancy_lex.specs.declared.flags.Flags.{Flags}
 use Rattle.fancy_grammar.specs.Ranks.{only_named}
@@ -35,6 +41,8 @@ pub data TriviumKind : Type 0 where
   opening : Flags → Flags → TriviumKind  -- the opening of a group without a node, with the flags around it and in it
   closing : TriviumKind  -- its closing parenthesis
   dropped : TriviumKind  -- a part of a quantifier or of a conditional that leaves nothing in the tree
+  inner_comment : TriviumKind  -- a comment inside a token
+  inner_line_comment : TriviumKind
 
 pub record Trivium : Type 0 where
   pub span : Span
@@ -66,6 +74,25 @@ of_comment c = part c.start c.end (if c.is_line then line_comment else comment) 
 abbrev pub comments_at : State → List Passed
 comments_at s = map of_comment (comments s.flags.ignore_space s.rest)
 
+abbrev pub of_inner : Comment → Passed
+of_inner c = part c.start c.end (if c.is_line then inner_line_comment else inner_comment) false
+
+-- the comments in the token at the front of the text that begins an atom and ends at the reach, under these flags
+abbrev pub comments_in_start : Flags → Text → ℕ → List Comment
+comments_in_start f [] end = []
+comments_in_start f (c ∷ t) end =
+    if c == code "(" then token_comments t end
+    else if c == code "\\" then escape_comments t end
+    else if c == code "[" then class_comments f t end
+    else []
+
+abbrev pub inner_at : State → ℕ → List Passed
+inner_at s end = map of_inner (comments_in_start s.flags s.rest end)
+
+-- those in the counts of a quantifier that are at t, and that v follows
+abbrev pub inner_of_counts : Counts → Text → Text → List Passed
+inner_of_counts c t v = if c.braces then map of_inner (token_comments t (reach_of v)) else []
+
 -- inline flags, if an Empty was read, since no other atom that is read at once is one
 abbrev pub flags_of_atom : State → Outcome Tree → List Passed
 flags_of_atom s q =
@@ -90,10 +117,13 @@ closing_of _ end = []
 abbrev pub with_dropped : ℕ → ℕ → List Passed → List Passed
 with_dropped start end p = if start == end then p else p ++ part start end dropped false ∷ []
 
--- all text between two reaches: these parts, and what lies before, between and after them
+-- all text between two reaches: these parts, and what lies before, between and after them; a part that begins before the
+-- first reach lies in the part before it
 abbrev pub filled : ℕ → ℕ → List Passed → List Passed → List Passed
 filled start end [] p = with_dropped start end p
-filled start end (x ∷ l) p = filled x.trivium.span.end end l (with_dropped start x.trivium.span.start p ++ x ∷ [])
+filled start end (x ∷ l) p =
+    if nat_lt start x.trivium.span.start then filled start end l (p ++ x ∷ [])
+    else filled x.trivium.span.end end l (with_dropped start x.trivium.span.start p ++ x ∷ [])
 
 -- ---- quantifiers: each function adds to the list p
 
@@ -101,19 +131,24 @@ filled start end (x ∷ l) p = filled x.trivium.span.end end l (with_dropped sta
 abbrev pub layout_end : State → ℕ
 layout_end s = choose (past_layout s.flags.ignore_space s.rest) reach_of (reach_of s.rest)
 
--- a quantifier of the atom a, whose counts begin at the reach and end before t: the comments before its operators, and
--- if a ignores it the counts and the operators
-abbrev pub counted_trivia : ℕ → Tree → State → List Passed → Counts × Text → List Passed
-counted_trivia start a s p (c, t) =
+-- the text after the layout at the state
+abbrev pub after_layout : State → Text
+after_layout s = choose (past_layout s.flags.ignore_space s.rest) (λ t. t) s.rest
+
+-- a quantifier of the atom a, whose counts are at w and end before t: the comments in the counts and before its operators,
+-- and if a ignores it the counts and the operators
+abbrev pub counted_trivia : Text → Tree → State → List Passed → Counts × Text → List Passed
+counted_trivia w a s p (c, t) =
     let u = at s t in
-    if is_repeatable s.flags a then p ++ comments_at u
-    else let q = with_dropped start (reach_of t) p ++ comments_at u in
+    let i = inner_of_counts c w t in
+    if is_repeatable s.flags a then (p ++ i) ++ comments_at u
+    else let q = (with_dropped (reach_of w) (reach_of t) p ++ i) ++ comments_at u in
     if_done (suffix u c) (λ m v. with_dropped (layout_end u) (reach_of v.rest) q) q
 
 -- a quantifier that follows layout, if one does
 abbrev pub quant_trivia : Tree → State → List Passed → List Passed
 quant_trivia a s p =
-    let q = p ++ comments_at s in choose (counts_ahead s) (counted_trivia (layout_end s) a s q) q
+    let q = p ++ comments_at s in choose (counts_ahead s) (counted_trivia (after_layout s) a s q) q
 
 -- adjacent quantifiers, of which k more may follow
 abbrev pub adjacent_trivia : ℕ → Tree → State → List Passed → List Passed
@@ -162,22 +197,24 @@ abbrev mutual
   pub atom_of_trivia : {k : AtomStart} {d : ℕ} {s : State} {o : Outcome Tree} → AtomOf k d s o → List Passed →
       List Passed
   atom_of_trivia a_nothing p = p
-  atom_of_trivia {s} {o} a_read p = p ++ flags_of_atom s o
-  atom_of_trivia {s} {o} (a_group {t} {h} i) p = inside_trivia i (p ++ opening_of h s t) ++ closing_of h (end_of o)
+  atom_of_trivia {s} {o} a_read p = (p ++ flags_of_atom s o) ++ inner_at s (end_of o)
+  atom_of_trivia {s} {o} (a_group {t} {h} i) p =
+      inside_trivia i ((p ++ opening_of h s t) ++ inner_at s (reach_of t.rest)) ++ closing_of h (end_of o)
   atom_of_trivia {s} {o} (a_condition {t} {v} i b) p =
       if leaves_condition b
       then filled (reach_of v.rest + 1) (end_of o) (body_trivia b [])
-      (inside_trivia i (with_dropped (reach_of s.rest) (reach_of t.rest) p))
-      else body_trivia b (inside_trivia i p)
-  atom_of_trivia (condition_error i) p = inside_trivia i p
+      (inside_trivia i (with_dropped (reach_of s.rest) (reach_of t.rest) p ++ inner_at s (reach_of t.rest)))
+      else body_trivia b (inside_trivia i (p ++ inner_at s (reach_of t.rest)))
+  atom_of_trivia {s} (condition_error {t} i) p = inside_trivia i (p ++ inner_at s (reach_of t.rest))
   atom_of_trivia {s} {o} (a_body {t} b) p =
+      let start = (condition_span s t).start in
       if leaves_condition b
       then filled (reach_of t.rest + 1) (end_of o) (body_trivia b [])
-      (with_dropped (reach_of s.rest) (condition_span s t).start p)
-      else body_trivia b p
-  atom_of_trivia (two_branches b e m) p = branch_trivia m (branch_trivia b p)
-  atom_of_trivia (one_branch b e) p = branch_trivia b p
-  atom_of_trivia (absent_error b) p = branch_trivia b p
+      (with_dropped (reach_of s.rest) start p ++ inner_at s start)
+      else body_trivia b (p ++ inner_at s start)
+  atom_of_trivia {s} (two_branches {t} b e m) p = branch_trivia m (branch_trivia b (p ++ inner_at s (reach_of t.rest)))
+  atom_of_trivia {s} (one_branch {t} b e) p = branch_trivia b (p ++ inner_at s (reach_of t.rest))
+  atom_of_trivia {s} (absent_error {t} b) p = branch_trivia b (p ++ inner_at s (reach_of t.rest))
 
   pub inside_trivia : {d : ℕ} {s : State} {o : Outcome Tree} → Inside d s o → List Passed → List Passed
   inside_trivia (inside a) p = alternation_trivia a p
@@ -199,14 +236,44 @@ IsTriviaOf f text l =
     (r : Tree) × (t : State) × (a : Whole f text (done r t))
     × (l ≡ map (located (bytes text)) (kept (only_named f (openings r)) (whole_trivia a)))
 
--- ---- where they are
+-- ---- where they are, and what they hold
+
+-- `(?` with layout between the two, and the letters that the reader gives, which v follows; f are the flags before them
+abbrev pub HasLetters : Flags → Letters → Text → Text → Type 0
+HasLetters f l w v =
+    (t z : Text) × (w ++ v ≡ code "(" ∷ t) × (layout f.ignore_space t ≡ rest (code "?" ∷ z)) × (letters f z ≡ gives l v)
+
+-- a parenthesis and layout: the opening of a group without a name, under the same flags
+abbrev pub IsParenthesis : Flags → Text → Text → Type 0
+IsParenthesis f w v = (t : Text) × (w ++ v ≡ code "(" ∷ t) × (layout f.ignore_space t ≡ rest v)
+
+-- the counts of a quantifier, which v follows
+abbrev pub IsCounts : Text → Text → Type 0
+IsCounts w v = (x : Bool) × (c : Counts) × (counts x (w ++ v) ≡ Some (c, v))
+
+-- the operators of a quantifier
+abbrev pub IsOperators : Text → Type 0
+IsOperators w = (w ≡ codes "?") ⊎ (w ≡ codes "+") ⊎ (w ≡ codes "?+")
+
+-- what leaves nothing in the tree: counts or operators of a quantifier, the opening of a conditional, up to its condition, or
+-- the text between parts of a conditional whose branches are both Empty
+pub data IsDropped (w v : Text) : Type 0 where
+  of_counts : IsCounts w v → IsDropped w v
+  of_operators : IsOperators w → IsDropped w v
+  start_of_conditional : (f : Flags) (t : Text) → w ++ v ≡ code "(" ∷ t →
+      layout f.ignore_space t ≡ rest (codes "?(" ++ v) → IsDropped w v
+  between_parts : AllByRecursion (λ c. (c ∈ "|) \r\n\t") ≡ true) w → IsDropped w v
 
 -- what the kind says of the text, which v follows
 abbrev pub IsTextOf : TriviumKind → Text → Text → Type 0
 IsTextOf comment w v = IsComment w
 IsTextOf line_comment w v = IsLineComment w v
+IsTextOf (flags f g) w v = HasLetters f (inline_flags g) w v
+IsTextOf (opening f g) w v = HasLetters f (scoped g) w v ⊎ (f ≡ g) × IsParenthesis f w v
 IsTextOf closing w v = w ≡ code ")" ∷ []
-IsTextOf _ w v = ⊤
+IsTextOf dropped w v = IsDropped w v
+IsTextOf inner_comment w v = IsComment w
+IsTextOf inner_line_comment w v = IsLineComment w v
 
 -- it is a part of the text: from its start, in bytes, to its end
 abbrev pub IsPartOf : Text → Trivium → Type 0
@@ -214,7 +281,54 @@ IsPartOf text x =
     (t : Text) × (w : Text) × (v : Text) × (text ≡ t ++ (w ++ v)) × IsTextOf x.kind w v
     × (x.span ≡ record { start = bytes t; end = bytes t + bytes w })
 
--- one after another between two positions
+-- whether it is a comment inside a token
+abbrev pub is_inner : TriviumKind → Bool
+is_inner inner_comment = true
+is_inner inner_line_comment = true
+is_inner comment = false
+is_inner line_comment = false
+is_inner (flags f g) = false
+is_inner (opening f g) = false
+is_inner closing = false
+is_inner dropped = false
+
+-- whether it is a comment through the end of its line
+abbrev pub is_line_comment : TriviumKind → Bool
+is_line_comment line_comment = true
+is_line_comment inner_line_comment = true
+is_line_comment comment = false
+is_line_comment inner_comment = false
+is_line_comment (flags f g) = false
+is_line_comment (opening f g) = false
+is_line_comment closing = false
+is_line_comment dropped = false
+
+-- whether it is a comment, between tokens or inside one
+abbrev pub is_comment : TriviumKind → Bool
+is_comment comment = true
+is_comment line_comment = true
+is_comment inner_comment = true
+is_comment inner_line_comment = true
+is_comment (flags f g) = false
+is_comment (opening f g) = false
+is_comment closing = false
+is_comment dropped = false
+
+-- the comments of a pattern, between tokens and inside them, byte for byte, in order
+abbrev pub comment_texts : List ℕ → List Trivium → List (List ℕ)
+comment_texts pattern [] = []
+comment_texts pattern (x ∷ l) =
+    if is_comment x.kind then slice_range pattern x.span.start x.span.end ∷ comment_texts pattern l
+    else comment_texts pattern l
+
+-- one after another up to `high`, after a part that ends at `end`; a comment inside that part begins at `from` or later
+pub data FollowOne : ℕ → ℕ → ℕ → List Trivium → Type 0 where
+  no_more : {from end high : ℕ} → end ≤ high → FollowOne from end high []
+  after : {from end high : ℕ} {x : Trivium} {l : List Trivium} → end ≤ x.span.start → x.span.start ≤ x.span.end →
+      FollowOne x.span.start x.span.end high l → FollowOne from end high (x ∷ l)
+  within : {from end high : ℕ} {x : Trivium} {l : List Trivium} → is_inner x.kind ≡ true → from ≤ x.span.start →
+      x.span.start ≤ x.span.end → x.span.end ≤ end → FollowOne x.span.end end high l → FollowOne from end high (x ∷ l)
+
+-- one after another between two positions, and a comment inside a token after the part that the token is, and in it
 abbrev pub AreInOrder : ℕ → ℕ → List Trivium → Type 0
-AreInOrder low high [] = low ≤ high
-AreInOrder low high (x ∷ l) = (low ≤ x.span.start) × (x.span.start ≤ x.span.end) × AreInOrder x.span.end high l
+AreInOrder low high l = FollowOne low low high l

@@ -1,6 +1,7 @@
 -- The comments in layout are those of its units that are no blanks.
 use Rattle.std.proofs.Common.{◌≡◌, ◌≢◌, ℕ, Bool, true, false, List, [], ◌∷◌, ◌++◌, Option, Some, None, ap, sym, ◌∙◌}
-use Rattle.std.proofs.Common.{refl, arith, inl, inr, append_assoc, append-nil, subst}
+use Rattle.std.proofs.Common.{refl, arith, inl, inr, append_assoc, append-nil, subst, ◌&&◌}
+use Rattle.std.specs.List.{AllByRecursion}
 use Rattle.std.proofs.lemmas.Bool.{cases_eq}
 use Rattle.std.proofs.lemmas.Bool.Decides.{nat_tests}
 use Prim.Native.Char.{code}
@@ -13,20 +14,28 @@ use Rattle.fancy_lex.proofs.CommentLemmas.{comment_on, comment_pair, comment_clo
 use Rattle.fancy_lex.proofs.CommentLemmas.{line_ends, opens, opens_line, after_blank, none_plain, none_at_end, none_other}
 use Rattle.fancy_lex.proofs.LayoutLaws.{snoc, split_line, opened_is, layout_sound}
 
--- the comments are units of the text from t up to v, in its order
-pub data AreUnits : Text → Text → List Comment → Type 0 where
-  no_more : {t v : Text} (w : Text) → t ≡ w ++ v → AreUnits t v []
-  a_comment : {t m v : Text} {l : List Comment} (w u : Text) → t ≡ w ++ (u ++ m) → IsComment u → AreUnits m v l →
-      AreUnits t v (closed_before (reach_of (u ++ m)) m ∷ l)
-  a_line : {t m v : Text} {l : List Comment} (w u : Text) → t ≡ w ++ (u ++ m) → IsLineComment u m → AreUnits m v l →
-      AreUnits t v (line_before (reach_of (u ++ m)) m ∷ l)
+-- the comments are in the text from t up to v, in its order, and P holds of the text before, between and after them
+pub data AreUnits (P : Text → Type 0) : Text → Text → List Comment → Type 0 where
+  no_more : {t v : Text} (w : Text) → P w → t ≡ w ++ v → AreUnits P t v []
+  a_comment : {t m v : Text} {l : List Comment} (w u : Text) → P w → t ≡ w ++ (u ++ m) → IsComment u →
+      AreUnits P m v l → AreUnits P t v (closed_before (reach_of (u ++ m)) m ∷ l)
+  a_line : {t m v : Text} {l : List Comment} (w u : Text) → P w → t ≡ w ++ (u ++ m) → IsLineComment u m →
+      AreUnits P m v l → AreUnits P t v (line_before (reach_of (u ++ m)) m ∷ l)
 
--- after more text
-earlier : {t v : Text} {l : List Comment} (w : Text) → AreUnits t v l → AreUnits (w ++ t) v l
-earlier w (no_more {v} x e) = no_more (w ++ x) (ap (λ s. w ++ s) e ∙ sym (append_assoc w x v))
-earlier w (a_comment {m} x u e h k) =
-    a_comment (w ++ x) u (ap (λ s. w ++ s) e ∙ sym (append_assoc w x (u ++ m))) h k
-earlier w (a_line {m} x u e h k) = a_line (w ++ x) u (ap (λ s. w ++ s) e ∙ sym (append_assoc w x (u ++ m))) h k
+-- after one more character
+pub earlier : {P : Text → Type 0} {t v : Text} {l : List Comment} (c : ℕ) → ((w : Text) → P w → P (c ∷ w)) →
+    AreUnits P t v l → AreUnits P (c ∷ t) v l
+earlier c g (no_more w p e) = no_more (c ∷ w) (g w p) (ap (λ s. c ∷ s) e)
+earlier c g (a_comment w u p e h k) = a_comment (c ∷ w) u (g w p) (ap (λ s. c ∷ s) e) h k
+earlier c g (a_line w u p e h k) = a_line (c ∷ w) u (g w p) (ap (λ s. c ∷ s) e) h k
+
+-- whitespace that is ignored
+abbrev pub AreIgnored : Bool → Text → Type 0
+AreIgnored x = AllByRecursion (λ c. (x && is_blank c) ≡ true)
+
+-- in layout
+abbrev pub AreInLayout : Bool → Text → Text → List Comment → Type 0
+AreInLayout x = AreUnits (AreIgnored x)
 
 module _ (x : Bool) where
   past_inside : {i : Text} → InComment i → (p : ℕ) (r : Text) →
@@ -103,28 +112,30 @@ module _ (x : Bool) where
       by_start (Some i) e = absurd (s.no_comment_start i (opened_is v i e))
       by_start None e = by_flag x refl e
 
-  of_units : {w v : Text} → Units x w v → Stops x v → AreUnits (w ++ v) v (comments x (w ++ v))
-  of_units {v} none s = subst (AreUnits v v) (sym (none_stopped v s)) (no_more [] refl)
+  of_units : {w v : Text} → Units x w v → Stops x v → AreInLayout x (w ++ v) v (comments x (w ++ v))
+  of_units {v} none s = subst (AreInLayout x v v) (sym (none_stopped v s)) (no_more [] tt refl)
   of_units {v} (more {w} u t e h k) s =
       let after = of_units k s in
       let cut : w ++ v ≡ u ++ (t ++ v) = ap (λ z. z ++ v) e ∙ append_assoc u t v in
-      subst (λ z. AreUnits z v (comments x z)) (sym cut) (by_unit h after)
+      subst (λ z. AreInLayout x z v (comments x z)) (sym cut) (by_unit h after)
     where
-      with_list : (l m : List Comment) → l ≡ m → AreUnits (u ++ (t ++ v)) v m → AreUnits (u ++ (t ++ v)) v l
-      with_list l m e h = subst (AreUnits (u ++ (t ++ v)) v) (sym e) h
+      with_list : {z : Text} {l m : List Comment} → l ≡ m → AreInLayout x z v m → AreInLayout x z v l
+      with_list {z} e h = subst (AreInLayout x z v) (sym e) h
 
-      by_unit : IsUnit x u (t ++ v) → AreUnits (t ++ v) v (comments x (t ++ v)) →
-          AreUnits (u ++ (t ++ v)) v (comments x (u ++ (t ++ v)))
-      by_unit (inl h) k = with_list _ _ (past_comment u (t ++ v) h) (a_comment [] u refl h k)
+      by_unit : IsUnit x u (t ++ v) → AreInLayout x (t ++ v) v (comments x (t ++ v)) →
+          AreInLayout x (u ++ (t ++ v)) v (comments x (u ++ (t ++ v)))
+      by_unit (inl h) k = with_list (past_comment u (t ++ v) h) (a_comment [] u tt refl h k)
       by_unit (inr (on, inl (c, b, e))) k =
-          with_list _ _ (ap (λ z. comments x (z ++ (t ++ v))) e ∙ past_blank on c b (t ++ v)) (earlier u k)
-      by_unit (inr (on, inr h)) k = with_list _ _ (past_line_comment on u (t ++ v) h) (a_line [] u refl h k)
+          let blank : (x && is_blank c) ≡ true = rw (on, b) refl in
+          subst (λ z. AreInLayout x (z ++ (t ++ v)) v (comments x (z ++ (t ++ v)))) (sym e)
+          (with_list (past_blank on c b (t ++ v)) (earlier c (λ w h. (blank, h)) k))
+      by_unit (inr (on, inr h)) k = with_list (past_line_comment on u (t ++ v) h) (a_line [] u tt refl h k)
 
 -- the comments in the layout of a text
-pub comments_are_units : (x : Bool) (t v : Text) → layout x t ≡ rest v → AreUnits t v (comments x t)
+pub comments_are_units : (x : Bool) (t v : Text) → layout x t ≡ rest v → AreInLayout x t v (comments x t)
 comments_are_units x t v e =
     let b = layout_sound x t v e in
-    subst (λ z. AreUnits z v (comments x z)) (sym b.cut) (of_units x b.layout.units b.layout.stops)
+    subst (λ z. AreInLayout x z v (comments x z)) (sym b.cut) (of_units x b.layout.units b.layout.stops)
 
 -- no comment is at the front of the text after the layout
 pub none_after_layout : (x : Bool) (t v : Text) → layout x t ≡ rest v → comments x v ≡ []

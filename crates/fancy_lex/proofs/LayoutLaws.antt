@@ -91,7 +91,7 @@ split_line (c ∷ t) =
     ]
 
 -- the inside of a comment that is closed, or of one that is not
-abbrev Ends : Text → Type 0
+abbrev pub Ends : Text → Type 0
 Ends t = (i : Text) × (r : Text) × InComment i × (t ≡ i ++ code ")" ∷ r)
 
 ends_plain : (c : ℕ) (t : Text) → c ≢ code "\\" → c ≢ code ")" → Ends t → Ends (c ∷ t)
@@ -109,7 +109,7 @@ open_pair : (b c : ℕ) (t : Text) (p : ℕ) → b ≡ code "\\" → OpenComment
 open_pair b c t p d (to_end h) = to_end (pair d h)
 open_pair b c t p d (after_backslash i e q h) = after_backslash (b ∷ c ∷ i) (ap (λ s. b ∷ c ∷ s) e) q (pair d h)
 
-split_comment : (t : Text) → Ends t ⊎ ((p : ℕ) × OpenComment t p)
+pub split_comment : (t : Text) → Ends t ⊎ ((p : ℕ) × OpenComment t p)
 split_comment [] = inr (at_end, to_end nothing)
 split_comment (c ∷ []) =
     elim (cases_eq c (code ")")) [

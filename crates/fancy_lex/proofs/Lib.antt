@@ -30,6 +30,9 @@ pub mod EscapeFrame
 -- ---- classes
 mod ClassLemmas
 pub mod ClassLaws
+pub mod TokenCommentLemmas
+mod ClassCommentLemmas
+pub mod TokenCommentLaws
 pub mod PositionLaws
 -- ---- quantifiers, and the openings of groups
 pub mod GroupStartLaws

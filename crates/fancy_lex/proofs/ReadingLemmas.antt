@@ -32,6 +32,16 @@ pub report_fails : {A : Type 0} (b : ReadError) (o : Reading A) → Reports b o 
 report_fails (At p k) o e = e
 report_fails OutOfMemory o e = tt
 
+-- a reading whose error the code returns has no value
+pub reports_no_value : {A : Type 0} (b : ReadError) (o : Reading A) → Reports b o → (a : A) (t : Text) →
+    o ≡ gives a t → ⊥
+reports_no_value (At p k) o e a t g = cc
+reports_no_value {A} OutOfMemory o e a t g = carried o e g
+  where
+    carried : (q : Reading A) → CarriesText q → q ≡ gives a t → ⊥
+    carried (gives b u) h g = h
+    carried (fails d) h g = cc
+
 -- a reading that equals the function's result is the code's result
 pub only_returned : {A B : Type 0} (f : A → B) (r : Result (A × Bor (List ℕ)) ReadError) (o q : Reading B) → o ≡ q →
     Returns f r o → Returns f r q

@@ -30,6 +30,7 @@ pub mod EscapeReference
 pub mod Property
 pub mod Escape
 pub mod Class
+pub mod TokenComments
 -- ---- quantifiers, and the openings of groups
 pub mod Quantifier
 pub mod FlagLetters

@@ -1,17 +1,19 @@
 //! Classes: the text after an opening bracket, and the text that is written for the class.
 ghost use Rattle.std.specs.Prelude.{◌≡◌, ◌+◌, ◌/◌, ◌%◌, ◌^◌, ◌<◌, ◌≤◌, ◌||◌, ◌++◌, length, chars, IfErr, IfOk, OnOk};
+ghost use Rattle.std.specs.Prelude.{IfSome, MatchOption, []};
 ghost use Rattle.fancy_lex.specs.Class as spec;
 ghost use Rattle.fancy_lex.specs.EscapeViews.{escape_of, delegate_text};
 ghost use Rattle.fancy_lex.specs.Property.{is_negated_set};
 ghost use Rattle.fancy_lex.specs.Reading.{Reading, Derives, gives};
 ghost use Rattle.fancy_lex.specs.ErrorViews.{LiesWithin};
-ghost use Rattle.fancy_lex.specs.Text.{Text, text_of, BeginsWith, EndsWith};
+ghost use Rattle.fancy_lex.specs.Text.{Text, text_of, BeginsWith, EndsWith, reach_of};
+ghost use Rattle.fancy_lex.specs.TokenComments.{class_comments, escape_comments};
 
 use crate::error::{ParseError, ReadError};
 use crate::escape::{DelegateText, Escaped, escape, is_metacharacter};
 use crate::flags::Flags;
 use crate::property::{is_negated, push_property};
-use crate::text::{AT_END, after, append, next, push};
+use crate::text::{AT_END, Reach, after, append, next, push, reach};
 use std::alloc::{AllocError, Global};
 
 /// Whether the character needs a backslash in a class.
@@ -195,4 +197,32 @@ pub fn class(alloc: Global, text: &str, flags: Flags) -> Result<(String, &str), 
     ensures shorter { IfOk result (λ p. length p.1.now < length text.now) }
 {
     read_class(alloc, text, flags)
+}
+
+/// The next escape in a class that was parsed, after its backslash, and the text after it. `text` is the rest of the class,
+/// which ends at the reach.
+pub fn next_escape(alloc: Global, text: &str, end: Reach, flags: Flags) -> Option<(&str, &str)>
+    ensures value { MatchOption result (class_comments flags (chars text.now) end ≡ [])
+        (λ p. class_comments flags (chars text.now) end ≡
+        escape_comments (chars p.0.now) (reach_of (chars p.1.now)) ++ class_comments flags (chars p.1.now) end) }
+    ensures shorter { IfSome result (λ p. length p.1.now < length text.now) }
+{
+    let mut rest = text;
+    while end < reach(rest) {
+        let Some((c, tail)) = next(rest) else {
+            return None;
+        };
+        if c == '\\' {
+            let Ok((_, after)) = escape(alloc, tail, flags, true) else {
+                return None;
+            };
+            // Each escape of a class ends in it.
+            if reach(after) < end {
+                return None;
+            }
+            return Some((tail, after));
+        }
+        rest = tail;
+    }
+    None
 }

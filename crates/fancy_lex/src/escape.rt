@@ -1,13 +1,14 @@
 //! Escapes: the text after a backslash.
-ghost use Rattle.std.specs.Prelude.{◌≡◌, true, ◌+◌, ◌^◌, ◌<◌, ◌≤◌, [], ◌∷◌, if◌then◌else◌, false};
+ghost use Rattle.std.specs.Prelude.{◌≡◌, ℕ, true, ◌+◌, ◌^◌, ◌<◌, ◌≤◌, [], ◌∷◌, if◌then◌else◌, false};
 ghost use Rattle.std.specs.Prelude.{length, chars, IfErr, IfOk, option_map};
 ghost use Rattle.fancy_lex.specs.Characters.{code, is_among, metacharacters};
 ghost use Rattle.fancy_lex.specs.Escape as spec;
 ghost use Rattle.fancy_lex.specs.EscapeReference as references;
 ghost use Rattle.fancy_lex.specs.Escaped as leaf;
 ghost use Rattle.fancy_lex.specs.EscapeViews.{escape_of, delegate_text};
-ghost use Rattle.fancy_lex.specs.Reading.{fails, Reads, Returns, Reports};
+ghost use Rattle.fancy_lex.specs.Reading.{choose, fails, Reads, Returns, Reports};
 ghost use Rattle.fancy_lex.specs.Text.{EndsWith, text_of};
+ghost use Rattle.fancy_lex.specs.TokenComments.{escape_comments, token_comments};
 ghost use Rattle.fancy_lex.specs.ErrorTable.{letter_of_no_escape};
 ghost use Rattle.fancy_lex.specs.ErrorViews.{LiesWithin};
 
@@ -472,4 +473,18 @@ pub fn escape<'a>(
     ensures shorter { IfOk result (λ p. length p.1.now < length text.now) }
 {
     read_escape(alloc, text, flags, inside, reach_before(text))
+}
+
+/// The text in which an escape may have comments: what follows its letter, if it is a hex code or a word boundary. `text`
+/// follows the backslash.
+pub fn after_layout_letter(text: &str) -> Option<&str>
+    ensures { (end : ℕ) → escape_comments (chars text.now) end ≡
+        choose result (λ t. token_comments (chars t.now) end) [] }
+{
+    let (c, rest) = next(text)?;
+    if matches!(c, 'x' | 'u' | 'U' | 'b' | 'B') {
+        Some(rest)
+    } else {
+        None
+    }
 }

@@ -1,20 +1,25 @@
 //! Layout: the comments and blanks between the parts of a pattern.
-ghost use Rattle.std.specs.Prelude.{◌≡◌, ℕ, ◌<◌, ◌≤◌, Bool, length, chars, MatchResult, IfOk, IfErr, IfSome};
-ghost use Rattle.std.specs.Prelude.{option_map, false, [], ◌∷◌, MatchOption};
+ghost use Rattle.std.specs.Prelude.{◌≡◌, ℕ, ◌<◌, ◌≤◌, Bool, List, length, chars, MatchResult, IfOk, IfErr, IfSome};
+ghost use Rattle.std.specs.Prelude.{option_map, true, false, [], ◌∷◌, MatchOption, Some};
 ghost use Rattle.fancy_lex.specs.Text.{Text, EndsWith};
 ghost use Rattle.fancy_lex.specs.CommentViews.{comment_of};
-ghost use Rattle.fancy_lex.specs.Comments.{closed_before, comments, comments_from, line_before};
+ghost use Rattle.fancy_lex.specs.Comments.{Comment, closed_before, comments, comments_from, line_before};
 ghost use Rattle.fancy_lex.specs.Layout as relation;
 ghost use Rattle.fancy_lex.specs.LayoutSteps as spec;
 ghost use Rattle.fancy_lex.specs.LayoutSteps.{rest, failed};
+ghost use Rattle.fancy_lex.specs.LayoutSteps.{after_comment_start};
+ghost use Rattle.fancy_lex.specs.TokenComments.{begins_comment, class_comments, if_inside, token_comments};
+ghost use Rattle.fancy_lex.specs.TokenComments.{token_comments_from};
+ghost use Rattle.fancy_lex.specs.TokenComments as tokens;
+ghost use Rattle.fancy_lex.specs.declared.flags.Flags.{Flags};
 ghost use Rattle.fancy_lex.specs.Views.{Skips, skipped_of};
 ghost use Rattle.fancy_lex.specs.Reading.{layout_reading, ReadsRest};
 
 use crate::error::{ParseError, ReadError};
-use crate::text::{AT_END, PAST_END, after, next};
+use crate::text::{AT_END, PAST_END, Reach, after, next, reach};
 
 /// Reads a comment after its `(?#`: the text after it, or the reach of its error.
-#[tactic(auto, using(crate::proofs::LayoutLemmas::layout_steps, crate::proofs::CommentLemmas::comment_steps))]
+#[tactic(auto, using(crate::proofs::LayoutLemmas::layout_steps, crate::proofs::CommentLemmas::comment_steps, crate::proofs::TokenCommentLemmas::token_steps))]
 fn comment(text: &str) -> Result<&str, usize>
     ensures value { (x : Bool) →
         MatchResult result
@@ -25,6 +30,11 @@ fn comment(text: &str) -> Result<&str, usize>
         (λ r. comments_from x spec.comment start (chars text.now) ≡
         closed_before start (chars r.now) ∷ comments x (chars r.now))
         (λ _. comments_from x spec.comment start (chars text.now) ≡ []) }
+    ensures in_token { (end start : ℕ) →
+        MatchResult result
+        (λ r. token_comments_from end spec.comment start (chars text.now) ≡
+        if_inside end (closed_before start (chars r.now)) (token_comments (chars r.now) end))
+        (λ _. token_comments_from end spec.comment start (chars text.now) ≡ []) }
     ensures cut { IfOk result (λ r. EndsWith (chars text.now) (chars r.now)) }
     ensures shorter { IfOk result (λ r. length r.now < length text.now) }
     ensures position { IfErr result (λ p. p ≤ 1) }
@@ -46,13 +56,16 @@ fn comment(text: &str) -> Result<&str, usize>
 }
 
 /// Reads a line comment after its `#`: the text after it.
-#[tactic(auto, using(crate::proofs::LayoutLemmas::layout_steps, crate::proofs::CommentLemmas::comment_steps))]
+#[tactic(auto, using(crate::proofs::LayoutLemmas::layout_steps, crate::proofs::CommentLemmas::comment_steps, crate::proofs::TokenCommentLemmas::token_steps))]
 fn line(text: &str) -> &str
     ensures value { (x : Bool) →
         spec.layout_from x spec.line (chars text.now) ≡ spec.layout_from x spec.between (chars result.now) }
     ensures comments { (x : Bool) (start : ℕ) →
         comments_from x spec.line start (chars text.now) ≡
         line_before start (chars result.now) ∷ comments x (chars result.now) }
+    ensures in_token { (end start : ℕ) →
+        token_comments_from end spec.line start (chars text.now) ≡
+        if_inside end (line_before start (chars result.now)) (token_comments (chars result.now) end) }
     ensures cut { EndsWith (chars text.now) (chars result.now) }
     ensures within { length result.now ≤ length text.now }
 {
@@ -238,4 +251,88 @@ pub fn first_comment(text: &str, ignore_space: bool) -> Option<LayoutComment<'_>
         }
         rest = after;
     }
+}
+
+/// The text after `(?#`, if the text begins with it and `end` is not before that.
+fn comment_in_token(text: &str, end: Reach) -> Option<&str>
+    ensures value { MatchOption result (begins_comment end (chars text.now) ≡ false)
+        (λ r. (after_comment_start (chars text.now) ≡ Some (chars r.now)) × (begins_comment end (chars text.now) ≡ true)) }
+    ensures shorter { IfSome result (λ r. length r.now < length text.now) }
+{
+    let inside = after_comment_start(text)?;
+    if end <= reach(inside) {
+        Some(inside)
+    } else {
+        None
+    }
+}
+
+/// Whether a token at the front of `text` that ends at the reach may have a comment: it has a `#`.
+pub fn has_hash(text: &str, end: Reach) -> bool
+    ensures token { result ≡ false → token_comments (chars text.now) end ≡ [] }
+    ensures class { (f : Flags) → result ≡ false → class_comments f (chars text.now) end ≡ [] }
+{
+    let after = end.saturating_sub(1);
+    let length = text.len().saturating_sub(after);
+    text.as_bytes()[..length].contains(&b'#')
+}
+
+/// The comment, if it ends at the reach or before it.
+fn in_token(comment: LayoutComment<'_>, end: Reach) -> Option<LayoutComment<'_>>
+    ensures value { (l : List Comment) →
+        MatchOption result (if_inside end (comment_of comment.entry) l ≡ [])
+        (λ c. if_inside end (comment_of comment.entry) l ≡ comment_of c ∷ l) }
+    ensures same { IfSome result (λ c. c ≡ comment.entry) }
+{
+    if end <= reach(comment.rest) {
+        Some(comment)
+    } else {
+        None
+    }
+}
+
+/// Whether the character begins what may be a name. In a name a `#` is a character like others.
+fn begins_name(c: char) -> bool
+    ensures { result ≡ tokens.begins_name c }
+{
+    matches!(c, '<' | '\'' | 'P')
+}
+
+/// The first comment in the token at the front of `text` that ends at the reach; none if it has no comment. In the token each
+/// `#` begins a comment, or is in one, but in a name.
+pub fn first_in_token(text: &str, end: Reach) -> Option<LayoutComment<'_>>
+    ensures value { MatchOption result (token_comments (chars text.now) end ≡ [])
+        (λ c. token_comments (chars text.now) end ≡ comment_of c ∷ token_comments (chars c.rest.now) end) }
+    ensures shorter { IfSome result (λ c. length c.rest.now < length text.now) }
+{
+    let mut rest = text;
+    while end < reach(rest) {
+        if let Some(opened) = comment_in_token(rest, end) {
+            let Ok(past) = comment(opened) else {
+                return None;
+            };
+            let found = LayoutComment {
+                start: rest,
+                rest: past,
+                is_line: false,
+            };
+            return in_token(found, end);
+        }
+        let Some((c, after)) = next(rest) else {
+            return None;
+        };
+        if c == '#' {
+            let found = LayoutComment {
+                start: rest,
+                rest: line(after),
+                is_line: true,
+            };
+            return in_token(found, end);
+        }
+        if begins_name(c) {
+            return None;
+        }
+        rest = after;
+    }
+    None
 }

@@ -17,10 +17,10 @@ use Rattle.fancy_grammar.specs.Quantified.{is_swapped, is_unmoved, max_adjacent,
 use Rattle.fancy_grammar.specs.Spans.{counts_ahead, if_done, quantifier_end}
 use Rattle.fancy_grammar.specs.State.{State, at, Outcome, done, failed, mapped}
 use Rattle.fancy_grammar.specs.Tree.{Tree, leaf, over, row, list_of, expression}
-use Rattle.fancy_grammar.specs.Trivia.{layout_end}
+use Rattle.fancy_grammar.specs.Trivia.{after_layout, inner_of_counts}
 use Rattle.fancy_syntax.specs.Decided.{decided, all_decided}
 use Rattle.fancy_syntax.specs.Log.{Log, layout_passed, atom_ended, atom_closed, conditional_dropped, part_dropped, left_out}
-use Rattle.fancy_syntax.specs.Log.{body_split, wrapped}
+use Rattle.fancy_syntax.specs.Log.{body_split, pass, wrapped}
 use Rattle.fancy_syntax.specs.Machine.{OpenPart, top, group, condition, body, first, second, part_of, IsPart, made_of}
 use Rattle.fancy_syntax.specs.Machine.{ended_with, ended_part, node_of_part, lacks_body, has_body_next, is_second}
 use Rattle.fancy_syntax.specs.Machine.{part_recorded, IsOpenedByBar, opened_by_bar, branches_at_bar, IsErrorOfBar, HoldsTrees}
@@ -221,15 +221,15 @@ quant_decided i a s l =
     m = layout_passed s l
 
     by_counts : (o : Option (Counts × Text)) →
-        choose o (counted_recorded (layout_end s) (decided i a) s m) m
-        ≡ choose o (counted_recorded (layout_end s) a s m) m
+        choose o (counted_recorded (after_layout s) (decided i a) s m) m
+        ≡ choose o (counted_recorded (after_layout s) a s m) m
     by_counts None = refl
     by_counts (Some (c, t)) =
         let u = at s t in
-        let k = layout_passed u m in
+        let k = layout_passed u (pass (inner_of_counts c (after_layout s) t) m) in
         ap (λ b. if b
         then if_done (suffix u c) (λ o v. wrapped (quantifier_end t o v) (is_swapped s.flags c || o.possessive) k) k
-        else quantifier_dropped (layout_end s) u c m) (decided_repeatable i s.flags a)
+        else quantifier_dropped (after_layout s) u c m) (decided_repeatable i s.flags a)
 
 -- an outcome of decided trees
 done_decided : (i : Bool) (q : Outcome Tree) (f g : Tree → State → Log) (m : Log) →

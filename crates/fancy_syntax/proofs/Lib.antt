@@ -17,6 +17,7 @@ mod VerbLemmas
 mod SolidLemmas
 mod StepLemmas
 mod PassedLemmas
+mod TokenLemmas
 mod PassedLaws
 mod ItemsReadLemmas
 mod FoundLemmas

@@ -555,7 +555,8 @@ leaf_passed : {t u : State} {r : Tree} (l : Log) → IsPlainLeaf t r u →
     atom_read t (done r u) (layout_passed t l) ≡ leaf_recorded (reach_of t.rest) (reach_of u.rest) l
 leaf_passed {t} {u} {r} l p =
     let leaf : Log → Log = λ m. leaf_recorded (reach_of t.rest) (reach_of u.rest) m in
-    rw (p.solid, p.no_comments) (nothing_passed (leaf (pass [] l)) ∙ ap leaf (nothing_passed l))
+    rw (p.solid, p.no_comments, p.no_inner)
+    (nothing_passed (pass [] (leaf (pass [] l))) ∙ nothing_passed (leaf (pass [] l)) ∙ ap leaf (nothing_passed l))
 
 -- a leaf that a look ahead reads, under its quantifiers
 pub running_leaf : {start t u v : State} {none l : Log} {stack : List Enclosing} {f : Frame} {trees : List Tree}

@@ -20,6 +20,7 @@ use Rattle.fancy_grammar.specs.Spans.{condition_span, counts_ahead, end_of, if_d
 use Rattle.fancy_grammar.specs.State.{State, at, Outcome, done, failed}
 use Rattle.fancy_grammar.specs.Tree.{Tree, leaf, over, row}
 use Rattle.fancy_grammar.specs.Trivia.{Passed, part, dropped, with_dropped, filled, layout_end, comments_at}
+use Rattle.fancy_grammar.specs.Trivia.{after_layout, inner_at, inner_of_counts}
 use Rattle.fancy_grammar.specs.Trivia.{closing_of, counted_trivia, quant_trivia, adjacent_trivia, leaves_condition}
 use Rattle.fancy_grammar.specs.Trivia.{quants_trivia, alternation_trivia, branches_trivia, branch_trivia, pieces_trivia}
 use Rattle.fancy_grammar.specs.Trivia.{piece_trivia, atom_trivia, atom_of_trivia, inside_trivia, body_trivia}
@@ -27,8 +28,8 @@ use Rattle.fancy_grammar.proofs.OutcomeLemmas.{Holds}
 use Rattle.fancy_grammar.proofs.TriviaAppend.{inside_alone, alternation_alone}
 use Rattle.fancy_syntax.specs.Log.{Log, wrapped, layout_passed, opened, group_opened, body_opened, body_begun}
 use Rattle.fancy_syntax.specs.Log.{branch_begun, branch_ended}
-use Rattle.fancy_syntax.specs.Log.{part_dropped, left_out, atom_opened, atom_ended, atom_closed, leaf_recorded}
-use Rattle.fancy_syntax.specs.Log.{text_dropped, inserted, body_dropped, conditional_dropped}
+use Rattle.fancy_syntax.specs.Log.{part_dropped, left_out, atom_ended, atom_closed, leaf_recorded}
+use Rattle.fancy_syntax.specs.Log.{branches_opened, pass, text_dropped, inserted, body_dropped, conditional_dropped}
 use Rattle.fancy_syntax.specs.Recording.{counted_recorded, quantifier_dropped, quant_recorded, adjacent_recorded}
 use Rattle.fancy_syntax.specs.Recording.{quants_recorded}
 use Rattle.fancy_syntax.specs.Recording.{group_recorded, body_separated, conditional_recorded, stopper_recorded}
@@ -38,7 +39,7 @@ use Rattle.fancy_syntax.specs.Recording.{atom_of_recorded, inside_recorded, body
 use Rattle.fancy_syntax.specs.declared.grammar.recorded.ConditionPart.{ConditionPart}
 use Rattle.fancy_syntax.specs.declared.grammar.recorded.Open.{Open}
 use Rattle.fancy_syntax.proofs.RecordingLemmas.{put_seam}
-use Rattle.fancy_syntax.proofs.RecordingLaws.{PartBegun, part_begins, body_begins, Kept, PartRecorded, alternation_as}
+use Rattle.fancy_syntax.proofs.RecordingLaws.{PartBegun, branches_begin, body_begins, Kept, PartRecorded, alternation_as}
 use Rattle.fancy_syntax.proofs.RecordingLaws.{inside_as}
 
 -- ---- what adds nothing
@@ -91,33 +92,43 @@ quant_passed a s l =
     n : Log
     n = layout_passed s l
 
+    w : Text
+    w = after_layout s
+
+    -- with the comments in the counts
+    in_counts : Counts → Text → Log → Log
+    in_counts c t l = pass (inner_of_counts c w t) l
+
     by_operators : (c : Counts) (t : Text) (o : Outcome Suffix) →
         (if_done o (λ m v. wrapped (quantifier_end t m v) (is_swapped s.flags c || m.possessive)
-        (layout_passed (at s t) n)) (layout_passed (at s t) n)).passed ≡ n.passed ++ comments_at (at s t)
+        (layout_passed (at s t) (in_counts c t n))) (layout_passed (at s t) (in_counts c t n))).passed
+        ≡ (n.passed ++ inner_of_counts c w t) ++ comments_at (at s t)
     by_operators c t (done m v) =
-        wrapped_passed (quantifier_end t m v) (is_swapped s.flags c || m.possessive) (layout_passed (at s t) n)
+        wrapped_passed (quantifier_end t m v) (is_swapped s.flags c || m.possessive)
+        (layout_passed (at s t) (in_counts c t n))
     by_operators c t (failed e) = refl
 
     by_ignored : (c : Counts) (t : Text) (o : Outcome Suffix) →
-        (let k = layout_passed (at s t) (text_dropped (layout_end s) (reach_of t) n) in
+        (let k = layout_passed (at s t) (in_counts c t (text_dropped (reach_of w) (reach_of t) n)) in
         if_done o (λ m v. text_dropped (layout_end (at s t)) (reach_of v.rest) k) k).passed
-        ≡ (let q = with_dropped (layout_end s) (reach_of t) n.passed ++ comments_at (at s t) in
+        ≡ (let q = (with_dropped (reach_of w) (reach_of t) n.passed ++ inner_of_counts c w t) ++ comments_at (at s t) in
         if_done o (λ m v. with_dropped (layout_end (at s t)) (reach_of v.rest) q) q)
     by_ignored c t (done m v) = refl
     by_ignored c t (failed e) = refl
 
     by_test : (b : Bool) (c : Counts) (t : Text) →
         (if b then if_done (suffix (at s t) c) (λ m v. wrapped (quantifier_end t m v)
-        (is_swapped s.flags c || m.possessive) (layout_passed (at s t) n)) (layout_passed (at s t) n)
-        else quantifier_dropped (layout_end s) (at s t) c n).passed
-        ≡ (if b then n.passed ++ comments_at (at s t)
-        else let q = with_dropped (layout_end s) (reach_of t) n.passed ++ comments_at (at s t) in
+        (is_swapped s.flags c || m.possessive) (layout_passed (at s t) (in_counts c t n)))
+        (layout_passed (at s t) (in_counts c t n))
+        else quantifier_dropped w (at s t) c n).passed
+        ≡ (if b then (n.passed ++ inner_of_counts c w t) ++ comments_at (at s t)
+        else let q = (with_dropped (reach_of w) (reach_of t) n.passed ++ inner_of_counts c w t) ++ comments_at (at s t) in
         if_done (suffix (at s t) c) (λ m v. with_dropped (layout_end (at s t)) (reach_of v.rest) q) q)
     by_test true c t = by_operators c t (suffix (at s t) c)
     by_test false c t = by_ignored c t (suffix (at s t) c)
 
-    by_counts : (o : Option (Counts × Text)) → (choose o (counted_recorded (layout_end s) a s n) n).passed
-        ≡ choose o (counted_trivia (layout_end s) a s n.passed) n.passed
+    by_counts : (o : Option (Counts × Text)) → (choose o (counted_recorded w a s n) n).passed
+        ≡ choose o (counted_trivia w a s n.passed) n.passed
     by_counts None = refl
     by_counts (Some (c, t)) = by_test (is_repeatable s.flags a) c t
 
@@ -256,36 +267,34 @@ mutual
       group_passed h (end_of o) (inside_recorded i (group_opened h s t l))
       ∙ ap (λ p. p ++ closing_of h (end_of o)) (inside_passed i (group_opened h s t l))
   atom_of_passed {s} {o} (a_condition {t} {v} i b) l =
-      let n = opened (reach_of s.rest) (reach_of t.rest) l in
+      let n = branches_opened s t l in
       let m = inside_recorded i n in
-      let k = (inside_as true i n (part_begins t (atom_opened (reach_of s.rest) l))).is_kept in
-      let r = inside_trivia i [] in
-      let e : m.passed ≡ l.passed ++ r = inside_passed i n ∙ inside_alone i l.passed in
+      let k = (inside_as true i n (branches_begin s t l)).is_kept in
+      let j = inner_at s (reach_of t.rest) in
+      let r = j ++ inside_trivia i [] in
+      let apart : (z : List Passed) → inside_trivia i (z ++ j) ≡ z ++ r =
+      λ z. inside_alone i (z ++ j) ∙ append_assoc z j (inside_trivia i []) in
+      let e : m.passed ≡ l.passed ++ r = inside_passed i n ∙ apart l.passed in
       body_passed b (body_begun (reach_of v.rest) m) (reach_of s.rest) (reach_of t.rest) l.passed r
       (body_begins v m) e k.passed k.start
       (λ i. Some (record { start = k.part i; closing = reach_of v.rest + 1; passed = length (e i) }))
-      ∙ (λ j. if leaves_condition b
+      ∙ (λ x. if leaves_condition b
       then filled (reach_of v.rest + 1) (end_of o) (body_trivia b [])
-      (sym (inside_alone i (with_dropped (reach_of s.rest) (reach_of t.rest) l.passed)) j)
-      else body_trivia b (sym (inside_alone i l.passed) j))
-  atom_of_passed {s} (condition_error {t} i) l = inside_passed i (opened (reach_of s.rest) (reach_of t.rest) l)
+      (sym (apart (with_dropped (reach_of s.rest) (reach_of t.rest) l.passed)) x)
+      else body_trivia b (sym (apart l.passed) x))
+  atom_of_passed {s} (condition_error {t} i) l = inside_passed i (branches_opened s t l)
   atom_of_passed {s} {o} (a_body {t} b) l =
       let p = condition_span s t in
-      let e = sym (append-nil l.passed) in
-      body_passed b (body_opened s t l) (reach_of s.rest) p.start l.passed []
-      (body_begins t (leaf_recorded p.start p.end (opened (reach_of s.rest) p.start l))) e refl refl
-      (λ i. Some (record { start = p.start; closing = reach_of t.rest + 1; passed = length (e i) }))
-      ∙ (λ j. if leaves_condition b
-      then filled (reach_of t.rest + 1) (end_of o) (body_trivia b [])
-      (append-nil (with_dropped (reach_of s.rest) p.start l.passed) j)
-      else body_trivia b (append-nil l.passed j))
+      let k = inner_at s p.start in
+      body_passed b (body_opened s t l) (reach_of s.rest) p.start l.passed k
+      (body_begins t (leaf_recorded p.start p.end (pass k (opened (reach_of s.rest) p.start l)))) refl refl refl refl
   atom_of_passed {s} (two_branches {t} {u} b e m) l =
-      let n = opened (reach_of s.rest) (reach_of t.rest) l in
+      let n = branches_opened s t l in
       branch_passed m (branch_begun (reach_of u) (branch_recorded b n)) ∙ ap (branch_trivia m) (branch_passed b n)
   atom_of_passed {s} {o} (one_branch {t} {a} b e) l =
-      let n = opened (reach_of s.rest) (reach_of t.rest) l in
+      let n = branches_opened s t l in
       stopper_passed a (end_of o) (branch_recorded b n) ∙ branch_passed b n
-  atom_of_passed {s} (absent_error {t} b) l = branch_passed b (opened (reach_of s.rest) (reach_of t.rest) l)
+  atom_of_passed {s} (absent_error {t} b) l = branch_passed b (branches_opened s t l)
 
   inside_passed : {d : ℕ} {s : State} {o : Outcome Tree} (a : Inside d s o) (l : Log) →
       (inside_recorded a l).passed ≡ inside_trivia a l.passed

@@ -1,16 +1,21 @@
 -- What is passed that no node has.
 use Rattle.std.proofs.Common.{◌≡◌, ℕ, ◌+◌, ◌<◌, Bool, true, false, ◌&&◌, if◌then◌else◌, List, [], ◌∷◌, ◌++◌, length, take, map, get_or, refl, sym, ap, subst, ◌∙◌}
-use Rattle.std.proofs.Common.{append-nil, append_assoc, drop, ◌≤◌, ◌==◌, min, Some}
+use Rattle.std.proofs.Common.{append-nil, append_assoc, drop, ◌≤◌, ◌==◌, min, Some, nat_lt, arith}
+use Rattle.std.proofs.lemmas.Bool.Decides.{nat_tests}
 use Rattle.std.specs.Prelude.{not, insert}
 use Rattle.std.proofs.lemmas.List.{map-append, take_more, drop_more, drop_all, take-map, drop-map, length-map}
-use Rattle.fancy_grammar.specs.Trivia.{Trivium, Passed, part, dropped, filled, located, kept, of_comment}
-use Rattle.fancy_grammar.specs.State.{State, skipped}
+use Rattle.fancy_grammar.specs.Trivia.{Trivium, Passed, part, dropped, with_dropped, filled, located, kept, of_comment}
+use Rattle.fancy_grammar.specs.State.{State, at, skipped}
+use Rattle.fancy_grammar.specs.Tree.{Tree}
 use Rattle.fancy_lex.specs.Comments.{comments}
+use Rattle.fancy_lex.specs.Quantifier.{counts}
 use Rattle.fancy_lex.specs.LayoutSteps.{rest}
 use Rattle.fancy_lex.specs.Text.{Text}
+use Rattle.fancy_lex.specs.declared.counts.Counts.{Counts}
 use Rattle.fancy_lex.proofs.CommentLaws.{none_after_layout}
 use Rattle.fancy_syntax.specs.Log.{Log, pass, layout_passed, text_dropped, text_filled, inserted}
 use Rattle.fancy_syntax.specs.Log.{text_inserted, body_dropped, conditional_dropped}
+use Rattle.fancy_syntax.specs.Recording.{counted_recorded, quant_recorded}
 use Rattle.fancy_syntax.specs.declared.grammar.recorded.ConditionPart.{ConditionPart}
 use Rattle.fancy_syntax.specs.TriviaViews.{recorded_part}
 use Rattle.fancy_syntax.specs.declared.grammar.recorded.RecordedTrivium.{RecordedTrivium}
@@ -30,15 +35,45 @@ no_layout_passed s v l e same =
 pub pass_first : (x : Passed) (xs : List Passed) (l : Log) → pass (x ∷ xs) l ≡ pass xs (pass (x ∷ []) l)
 pass_first x xs l = ap (λ ys. record l { passed = ys }) (sym (append_assoc l.passed (x ∷ []) xs))
 
--- the next part is added after the text before it
-pub filled_next : (xs : List RecordedTrivium) (i : ℕ) (d : RecordedTrivium) (from end : ℕ) (l m n : Log) → i < length xs →
-    m ≡ text_dropped from (get_or xs i d).start l → n ≡ pass (recorded_part (get_or xs i d) ∷ []) m →
-    text_filled from end (map recorded_part (drop i xs)) l
-    ≡ text_filled (get_or xs i d).end end (map recorded_part (drop (i + 1) xs)) n
-filled_next xs i d from end l m n lt before added =
+-- parts of two tokens are passed one after the other
+pub pass_both : (xs ys : List Passed) (l : Log) → pass (xs ++ ys) l ≡ pass ys (pass xs l)
+pass_both xs ys l = ap (λ zs. record l { passed = zs }) (sym (append_assoc l.passed xs ys))
+
+-- the quantifier after layout, whose counts are at u and end before t
+pub quant_counted : (a : Tree) (s : State) (u t : Text) (c : Counts) (l : Log) → skipped s ≡ rest u →
+    counts s.flags.ignore_space u ≡ Some (c, t) →
+    counted_recorded u a (at s u) (layout_passed s l) (c, t) ≡ quant_recorded a s l
+quant_counted a s u t c l e f = rw (e, f) refl
+
+-- the next part lies in the one before it
+pub filled_inner : (xs : List RecordedTrivium) (i : ℕ) (d : RecordedTrivium) (from end : ℕ) (l n : Log) → i < length xs →
+    from < (get_or xs i d).start → n ≡ pass (recorded_part (get_or xs i d) ∷ []) l →
+    text_filled from end (map recorded_part (drop i xs)) l ≡ text_filled from end (map recorded_part (drop (i + 1) xs)) n
+filled_inner xs i d from end l n lt earlier added =
     let x = get_or xs i d in
     let others = map recorded_part (drop (i + 1) xs) in
+    let inner : nat_lt from x.start ≡ true = grind (arith, nat_tests) in
     ap (λ ys. text_filled from end (map recorded_part ys) l) (drop_more xs i d lt)
+    ∙ ap (λ b. record l {
+      passed = if b then filled from end others (l.passed ++ recorded_part x ∷ [])
+          else filled x.end end others (with_dropped from x.start l.passed ++ recorded_part x ∷ []);
+    }) inner
+    ∙ ap (text_filled from end others) (sym added)
+
+-- the next part is added after the text before it
+pub filled_next : (xs : List RecordedTrivium) (i : ℕ) (d : RecordedTrivium) (from end : ℕ) (l m n : Log) → i < length xs →
+    (get_or xs i d).start ≤ from → m ≡ text_dropped from (get_or xs i d).start l → n ≡ pass (recorded_part (get_or xs i d) ∷ []) m →
+    text_filled from end (map recorded_part (drop i xs)) l
+    ≡ text_filled (get_or xs i d).end end (map recorded_part (drop (i + 1) xs)) n
+filled_next xs i d from end l m n lt later before added =
+    let x = get_or xs i d in
+    let others = map recorded_part (drop (i + 1) xs) in
+    let none : nat_lt from x.start ≡ false = grind (arith, nat_tests) in
+    ap (λ ys. text_filled from end (map recorded_part ys) l) (drop_more xs i d lt)
+    ∙ ap (λ b. record l {
+      passed = if b then filled from end others (l.passed ++ recorded_part x ∷ [])
+          else filled x.end end others (with_dropped from x.start l.passed ++ recorded_part x ∷ []);
+    }) none
     ∙ ap (text_filled x.end end others) (sym (added ∙ ap (pass (recorded_part x ∷ [])) before))
 
 -- after the last part, the text up to the end

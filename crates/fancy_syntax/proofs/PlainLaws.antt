@@ -6,7 +6,12 @@ use Rattle.fancy_lex.specs.Escaped.{Escape}
 use Rattle.fancy_lex.specs.Escaped as escaped
 use Rattle.fancy_lex.specs.LayoutSteps.{is_layout, after_comment_start}
 use Rattle.fancy_lex.specs.Reading.{gives}
-use Rattle.fancy_lex.specs.Text.{Text, bytes}
+use Rattle.fancy_lex.specs.Text.{Text, bytes, reach_of}
+use Rattle.fancy_lex.specs.TokenComments.{escape_comments}
+use Rattle.fancy_lex.specs.declared.flags.Flags.{Flags}
+use Rattle.fancy_grammar.specs.Trivia.{comments_in_start}
+use Rattle.std.proofs.Common.{arith}
+use Rattle.std.proofs.lemmas.Bool.Decides.{nat_tests}
 use Rattle.fancy_grammar.specs.AtomStart.{atom_start, leaf_node, read}
 use Rattle.fancy_grammar.specs.Join.{is_empty}
 use Rattle.fancy_grammar.specs.Plain.{is_special, is_suffix}
@@ -72,6 +77,10 @@ unquantified_recorded s c t left a l e x h =
       no_comments c s.flags.ignore_space t (not_paren c h) x,
     ) (nothing_passed l)))
 
+-- a character that is not special begins no token with comments in it
+no_token : (f : Flags) (c : ℕ) (t : Text) → is_special c ≡ false → comments_in_start f (c ∷ t) (reach_of t) ≡ []
+no_token f c t h = grind (arith, nat_tests)
+
 pub is_plain_literal : (s : State) (c : ℕ) (t : Text) → is_layout s.flags.ignore_space c ≡ false →
     s.rest ≡ c ∷ t → is_special c ≡ false → IsPlainLeaf s (literal (c ∷ []) s.flags.casei) (at s t)
 is_plain_literal s c t x e h = record {
@@ -81,6 +90,7 @@ is_plain_literal s c t x e h = record {
   leaf = λ d. subst (λ u. atom_start d (at s u) ≡ read (done (literal (c ∷ []) s.flags.casei) (at s t))) (sym e)
       (is_leaf d c s t h);
   solid = refl;
+  no_inner = rw e (no_token s.flags c t h);
 }
 
 leaf_is_solid : (e : Escape) → is_empty (leaf_node e) ≡ false
@@ -88,11 +98,12 @@ leaf_is_solid (escaped.literal c casei) = refl
 leaf_is_solid e = refl
 
 pub is_plain_escape : (s : State) (t u : Text) (e : Escape) → s.rest ≡ code "\\" ∷ t →
-    escape s.flags false t ≡ gives e u → IsPlainLeaf s (leaf_node e) (at s u)
-is_plain_escape s t u e i h = record {
+    escape s.flags false t ≡ gives e u → escape_comments t (reach_of u) ≡ [] → IsPlainLeaf s (leaf_node e) (at s u)
+is_plain_escape s t u e i h n = record {
   more = ap ends i;
   no_layout = rw i (no_layout (code "\\") s.flags.ignore_space t refl (backslash_no_layout s.flags.ignore_space));
   no_comments = rw i (no_comments (code "\\") s.flags.ignore_space t refl (backslash_no_layout s.flags.ignore_space));
   leaf = λ d. subst (λ v. atom_start d (at s v) ≡ read (done (leaf_node e) (at s u))) (sym i) (is_escape d s t u e h);
   solid = leaf_is_solid e;
+  no_inner = rw i n;
 }

@@ -40,9 +40,11 @@ use Rattle.fancy_grammar.proofs.SpansCondition.{ConditionLies, condition_lies}
 use Rattle.fancy_grammar.proofs.SpansLemmas.{Lies, row_at, leaf_lies}
 use Rattle.fancy_grammar.proofs.TreeLaws.{list_back}
 use Rattle.fancy_syntax.specs.Log.{Log, own_node, put, shown, started, leaf_recorded, left_out, opened, part_begun}
+use Rattle.fancy_syntax.specs.Log.{branches_opened}
+use Rattle.fancy_grammar.specs.Trivia.{inner_at}
 use Rattle.fancy_syntax.specs.Log.{body_opened, branch_begun, branch_ended, choice_ended, body_split, branch_lacked}
 use Rattle.fancy_syntax.specs.Log.{part_dropped, atom_closed, atom_ended, first_bar, with_bar, others_put}
-use Rattle.fancy_syntax.specs.Log.{atom_opened, pass, layout_passed, group_opened, body_begun, conditional_dropped}
+use Rattle.fancy_syntax.specs.Log.{pass, layout_passed, group_opened, body_begun, conditional_dropped}
 use Rattle.fancy_syntax.specs.Recording.{alternation_recorded, branches_recorded, branch_recorded, pieces_recorded}
 use Rattle.fancy_syntax.specs.Recording.{piece_recorded}
 use Rattle.fancy_syntax.specs.Recording.{atom_recorded, atom_of_recorded, inside_recorded, body_recorded}
@@ -133,6 +135,18 @@ within_on h k = record {
 
 opened_within : (start first : ℕ) (l : Log) → Within start l (opened start first l)
 opened_within start first l = record { around = refl; start_is = refl; height = refl }
+
+-- with the comments in its opening
+branches_within : (s t : State) (l : Log) → Within (reach_of s.rest) l (branches_opened s t l)
+branches_within s t l = record { around = refl; start_is = refl; height = refl }
+
+pub branches_begin : (s t : State) (l : Log) → PartBegun t (branches_opened s t l)
+branches_begin s t l = record {
+  part = refl;
+  branches = refl;
+  bar = refl;
+  branch = record { branch = refl; pieces = refl };
+}
 
 -- a group without a name, with a number and without
 unnamed_group : (named : Bool) (p : Span) (xs : List Recorded) (x : Spans) → shown named xs ≡ in_preorder x →
@@ -845,33 +859,34 @@ module _ (named : Bool) where
           branch = record { branch = refl; pieces = refl };
         }))
     atom_of_as {s} (a_condition {t} {v} {c} i b) l h z =
-        let n = opened (reach_of s.rest) (reach_of t.rest) l in
-        let f = inside_as i n (part_begins t (atom_opened (reach_of s.rest) l)) in
+        let n = branches_opened s t l in
+        let f = inside_as i n (branches_begin s t l) in
         let m = body_begun (reach_of v.rest) (inside_recorded i n) in
-        let w = within_on (opened_within (reach_of s.rest) (reach_of t.rest) l) f.is_kept in
+        let w = within_on (branches_within s t l) f.is_kept in
         body_as_read s b l m (inside_spans named i) f.xs
         (record { around = w.around; start_is = w.start_is; height = w.height }) f.is_recorded f.fits
         (body_begins v (inside_recorded i n))
     atom_of_as {s} (condition_error i) l h c = tt
     atom_of_as {s} (a_body {t} {c} b) l h z =
         let p = condition_span s t in
+        let k = inner_at s p.start in
         let w = opened_within (reach_of s.rest) p.start l in
         body_as_read s b l (body_opened s t l) (alone p) (Node p.start p.end ∷ [])
         (record { around = w.around; start_is = w.start_is; height = w.height }) refl
         (fits_alone p c z)
-        (body_begins t (leaf_recorded p.start p.end (opened (reach_of s.rest) p.start l)))
+        (body_begins t (leaf_recorded p.start p.end (pass k (opened (reach_of s.rest) p.start l))))
     atom_of_as {s} (two_branches {t} {v} {u} {a} {q} b e m) l h c =
-        let n = opened (reach_of s.rest) (reach_of t.rest) l in
+        let n = branches_opened s t l in
         let k = branch_recorded b n in
-        let f = branch_as_read b n (part_begins t (atom_opened (reach_of s.rest) l)).branch in
+        let f = branch_as_read b n (branches_begin s t l).branch in
         expression_as s l n k (branch_recorded m (branch_begun (reach_of u) k)) (reach_of u) a (branch_spans named b)
-        (branch_spans named m) q (opened_within (reach_of s.rest) (reach_of t.rest) l) refl f
+        (branch_spans named m) q (branches_within s t l) refl f
         (branch_as_read m (branch_begun (reach_of u) k) (record { branch = refl; pieces = refl }))
     atom_of_as {s} (one_branch {t} {v} {a} b e) l h c =
-        let n = opened (reach_of s.rest) (reach_of t.rest) l in
+        let n = branches_opened s t l in
         stopper_as s l n (branch_recorded b n) a (branch_spans named b) v
-        (opened_within (reach_of s.rest) (reach_of t.rest) l) refl refl
-        (branch_as_read b n (part_begins t (atom_opened (reach_of s.rest) l)).branch)
+        (branches_within s t l) refl refl
+        (branch_as_read b n (branches_begin s t l).branch)
     atom_of_as {s} (absent_error b) l h c = tt
 
     pub inside_as : {d : ℕ} {s : State} {o : Outcome Tree} (a : Inside d s o) (l : Log) → PartBegun s l →

@@ -26,8 +26,8 @@ use Rattle.fancy_grammar.specs.Spans.{adjacent_spans, quants_spans}
 use Rattle.fancy_grammar.specs.State.{skipped, after_skipped, State, at, Outcome, done, failed, and_then, mapped}
 use Rattle.fancy_grammar.specs.Tree.{Tree, leaf, over, row, Trees, trees_of, alt, repeat, atomic_repeat}
 use Rattle.fancy_grammar.proofs.OutcomeLemmas.{Holds}
-use Rattle.fancy_grammar.specs.Trivia.{Passed, layout_end, with_dropped}
-use Rattle.fancy_syntax.specs.Log.{Log, put, others_put, alt_split, bar_split, body_split, shown, under_node, wrapped, layout_passed, text_dropped}
+use Rattle.fancy_grammar.specs.Trivia.{Passed, inner_of_counts, layout_end, with_dropped}
+use Rattle.fancy_syntax.specs.Log.{Log, pass, put, others_put, alt_split, bar_split, body_split, shown, under_node, wrapped, layout_passed, text_dropped}
 use Rattle.fancy_syntax.specs.Recording.{counted_recorded, quantifier_dropped, quant_recorded, adjacent_recorded}
 use Rattle.fancy_syntax.specs.Recording.{quants_recorded}
 use Rattle.fancy_syntax.specs.declared.grammar.recorded.LastPiece.{LastPiece}
@@ -213,51 +213,54 @@ module _ (named : Bool) where
         g : PieceRecorded start l n a x
         g = passed_after _ h
 
-        -- after the layout before the operators
-        after : Text → Log
-        after u = layout_passed (at s u) n
+        -- after the counts at w, and the layout before the operators
+        after : Text → Counts → Text → Log
+        after w c u = layout_passed (at s u) (pass (inner_of_counts c w u) n)
 
-        by_operators : (c : Counts) (u : Text) (o : Outcome Suffix) →
+        by_operators : (w : Text) (c : Counts) (u : Text) (o : Outcome Suffix) →
             RecordedAs
-            (if_done o (λ k v. wrapped (quantifier_end u k v) (is_swapped s.flags c || k.possessive) (after u)) (after u))
+            (if_done o (λ k v. wrapped (quantifier_end u k v) (is_swapped s.flags c || k.possessive) (after w c u))
+            (after w c u))
             (if_done o (λ k v. under s.flags c k (record { start = start; end = quantifier_end u k v }) x) x)
             (mapped (λ k. quantified s.flags c k a) o)
-        by_operators c u (done k v) =
+        by_operators w c u (done k v) =
             under_recorded s.flags c k (quantifier_end u k v) (passed_after _ g)
-        by_operators c u (failed e) = tt
+        by_operators w c u (failed e) = tt
 
         -- after the counts, which are left out, and the layout after them
-        left_out : Text → Log
-        left_out u = layout_passed (at s u) (text_dropped (layout_end s) (reach_of u) n)
+        left_out : Text → Counts → Text → Log
+        left_out w c u =
+            layout_passed (at s u) (pass (inner_of_counts c w u) (text_dropped (reach_of w) (reach_of u) n))
 
-        by_dropped : (u : Text) (o : Outcome Suffix) → RecordedAs
-            (if_done o (λ k v. text_dropped (layout_end (at s u)) (reach_of v.rest) (left_out u)) (left_out u)) x
+        by_dropped : (w : Text) (c : Counts) (u : Text) (o : Outcome Suffix) → RecordedAs
+            (if_done o (λ k v. text_dropped (layout_end (at s u)) (reach_of v.rest) (left_out w c u)) (left_out w c u)) x
             (mapped (λ k. a) o)
-        by_dropped u (done k v) =
-            passed_after (with_dropped (layout_end (at s u)) (reach_of v.rest) (left_out u).passed) g
-        by_dropped u (failed e) = tt
+        by_dropped w c u (done k v) =
+            passed_after (with_dropped (layout_end (at s u)) (reach_of v.rest) (left_out w c u).passed) g
+        by_dropped w c u (failed e) = tt
 
-        by_tests : (b d : Bool) (c : Counts) (u : Text) →
+        by_tests : (b d : Bool) (w : Text) (c : Counts) (u : Text) →
             RecordedAs
             (if b then if_done (suffix (at s u) c)
-            (λ k v. wrapped (quantifier_end u k v) (is_swapped s.flags c || k.possessive) (after u)) (after u)
-            else quantifier_dropped (layout_end s) (at s u) c n)
+            (λ k v. wrapped (quantifier_end u k v) (is_swapped s.flags c || k.possessive) (after w c u)) (after w c u)
+            else quantifier_dropped w (at s u) c n)
             (if b then if_done (suffix (at s u) c)
             (λ k v. under s.flags c k (record { start = start; end = quantifier_end u k v }) x) x else x)
             (if b then mapped (λ k. quantified s.flags c k a) (suffix (at s u) c)
             else if d then mapped (λ k. a) (suffix (at s u) c) else failed (not_repeatable u))
-        by_tests true d c u = by_operators c u (suffix (at s u) c)
-        by_tests false true c u = by_dropped u (suffix (at s u) c)
-        by_tests false false c u = tt
+        by_tests true d w c u = by_operators w c u (suffix (at s u) c)
+        by_tests false true w c u = by_dropped w c u (suffix (at s u) c)
+        by_tests false false w c u = tt
 
         by_counts : (v : Text) (o : Option (Counts × Text)) →
-            RecordedAs (choose o (counted_recorded (layout_end s) a s n) n) (choose o (counted start a s x) x)
+            RecordedAs (choose o (counted_recorded v a s n) n) (choose o (counted start a s x) x)
             (with_counts left a (at s v) o)
         by_counts v None = g
-        by_counts v (Some (c, u)) = by_tests (is_repeatable s.flags a) (is_dropped s.flags left a u) c u
+        by_counts v (Some (c, u)) = by_tests (is_repeatable s.flags a) (is_dropped s.flags left a u) v c u
 
         by_layout : (j : Skipped) → RecordedAs
-            (choose (option_and_then (counts s.flags.ignore_space) (rest_of j)) (counted_recorded (layout_end s) a s n) n)
+            (choose (option_and_then (counts s.flags.ignore_space) (rest_of j))
+            (counted_recorded (choose (rest_of j) (λ t. t) s.rest) a s n) n)
             (choose (option_and_then (counts s.flags.ignore_space) (rest_of j)) (counted start a s x) x)
             (after_skipped j (λ v. with_counts left a (at s v) (counts s.flags.ignore_space v)) failed)
         by_layout (rest v) = by_counts v (counts s.flags.ignore_space v)

@@ -7,7 +7,7 @@ use Rattle.fancy_lex.specs.Text.{reach_of}
 use Rattle.fancy_grammar.specs.Spans.{Span, condition_span}
 use Rattle.fancy_grammar.specs.GroupKind.{GroupKind}
 use Rattle.fancy_grammar.specs.State.{State}
-use Rattle.fancy_grammar.specs.Trivia.{Passed, part, dropped, comments_at, opening_of, with_dropped, filled}
+use Rattle.fancy_grammar.specs.Trivia.{Passed, part, dropped, comments_at, inner_at, opening_of, with_dropped, filled}
 use Rattle.fancy_syntax.specs.declared.grammar.recorded.FirstBar.{FirstBar}
 use Rattle.fancy_syntax.specs.declared.grammar.recorded.ConditionPart.{ConditionPart}
 use Rattle.fancy_syntax.specs.declared.grammar.recorded.LastPiece.{LastPiece}
@@ -113,9 +113,16 @@ atom_opened start l =
 abbrev pub opened : ℕ → ℕ → Log → Log
 opened start inside l = part_begun inside (atom_opened start l)
 
--- a group of this kind that begins at s, and its contents at t
+-- a group of this kind that begins at s, and its contents at t, without the comments in its opening, and with them
+abbrev pub group_begun : GroupKind → State → State → Log → Log
+group_begun h s t l = pass (opening_of h s t) (opened (reach_of s.rest) (reach_of t.rest) l)
+
 abbrev pub group_opened : GroupKind → State → State → Log → Log
-group_opened h s t l = pass (opening_of h s t) (opened (reach_of s.rest) (reach_of t.rest) l)
+group_opened h s t l = pass (inner_at s (reach_of t.rest)) (group_begun h s t l)
+
+-- any other atom that holds branches
+abbrev pub branches_opened : State → State → Log → Log
+branches_opened s t l = pass (inner_at s (reach_of t.rest)) (opened (reach_of s.rest) (reach_of t.rest) l)
 
 -- the open part, a condition, has ended, and after its closing parenthesis the body begins at the reach
 abbrev pub body_begun : ℕ → Log → Log
@@ -127,7 +134,8 @@ body_begun start l = part_begun start (with_open (λ o. record o {
 abbrev pub body_opened : State → State → Log → Log
 body_opened s t l =
     let p = condition_span s t in
-    body_begun (reach_of t.rest) (leaf_recorded p.start p.end (opened (reach_of s.rest) p.start l))
+    body_begun (reach_of t.rest)
+    (leaf_recorded p.start p.end (pass (inner_at s p.start) (opened (reach_of s.rest) p.start l)))
 
 -- the open atom becomes the last piece, and the atom around it is the open one
 abbrev pub atom_ended : Log → Log

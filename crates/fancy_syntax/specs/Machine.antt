@@ -15,9 +15,10 @@ use Rattle.fancy_grammar.specs.GroupKind.{GroupKind, group_node}
 use Rattle.fancy_grammar.specs.Items.{Item, items}
 use Rattle.fancy_grammar.specs.Join.{solid, is_empty}
 use Rattle.fancy_grammar.specs.Slices.{Slice}
+use Rattle.fancy_grammar.specs.Trivia.{comments_in_start}
 use Rattle.fancy_syntax.specs.Decided.{decided, all_decided, made, IsDecidedKind}
 use Rattle.fancy_syntax.specs.Found.{IsFound, group_opening, items_in}
-use Rattle.fancy_syntax.specs.Log.{Log, opened, group_opened, body_opened, body_begun, branch_begun, atom_closed}
+use Rattle.fancy_syntax.specs.Log.{Log, branches_opened, group_opened, body_opened, body_begun, branch_begun, atom_closed}
 use Rattle.fancy_syntax.specs.Log.{layout_passed}
 use Rattle.fancy_syntax.specs.Recording.{PieceTo, PiecesTo, BranchTo, BranchesTo, AlternationTo, inside_recorded}
 use Rattle.fancy_syntax.specs.Recording.{branch_recorded}
@@ -114,13 +115,13 @@ pub data OpensPart : ℕ → State → Log → OpenPart → State → Log → Ty
   a_group : {d s l t u h : _} → skipped s ≡ rest u → atom_start d (at s u) ≡ seen.of_kind h t →
       OpensPart d s l (group h (reach_of u)) t (group_opened h (at s u) t (layout_passed s l))
   a_condition : {d s l t u : _} → skipped s ≡ rest u → atom_start d (at s u) ≡ seen.condition t →
-      OpensPart d s l condition t (opened (reach_of u) (reach_of t.rest) (layout_passed s l))
+      OpensPart d s l condition t (branches_opened (at s u) t (layout_passed s l))
   a_body : {d s l t u c : _} → skipped s ≡ rest u → atom_start d (at s u) ≡ seen.body c t →
       OpensPart d s l (body c (bytes t.rest)) t (body_opened (at s u) t (layout_passed s l))
   after_condition : {d s l t m v c : _} → OpensPart d s l condition t m → (i : Inside d t (done c v)) →
       OpensPart d s l (body c (bytes v.rest)) v (body_begun (reach_of v.rest) (inside_recorded i m))
   a_branch : {d s l t u : _} → skipped s ≡ rest u → atom_start d (at s u) ≡ seen.absent_branch t →
-      OpensPart d s l first t (opened (reach_of u) (reach_of t.rest) (layout_passed s l))
+      OpensPart d s l first t (branches_opened (at s u) t (layout_passed s l))
   after_branch : {d s l t m v u a : _} → OpensPart d s l first t m → (b : Branch (d + 1) t (done a v)) →
       strip (code "|") v.rest ≡ Some u →
       OpensPart d s l (second a) (at v u) (branch_begun (reach_of u) (branch_recorded b m))
@@ -283,3 +284,4 @@ pub record IsPlainLeaf (s : State) (r : Tree) (t : State) : Type 0 where
   pub no_comments : comments s.flags.ignore_space s.rest ≡ []
   pub leaf : (d : ℕ) → atom_start d s ≡ seen.read (done r t)
   pub solid : is_empty r ≡ false
+  pub no_inner : comments_in_start s.flags s.rest (reach_of t.rest) ≡ []

@@ -16,32 +16,32 @@ use Rattle.fancy_grammar.specs.Quantified.{quant, suffix, is_repeatable, is_swap
 use Rattle.fancy_grammar.specs.Spans.{counts_ahead, end_of, if_done, quantifier_end}
 use Rattle.fancy_grammar.specs.State.{State, at, Outcome}
 use Rattle.fancy_grammar.specs.Tree.{Tree, alt, list_of}
-use Rattle.fancy_grammar.specs.Trivia.{flags_of_atom, closing_of, layout_end}
-use Rattle.fancy_syntax.specs.Log.{Log, leaf_recorded, left_out, wrapped, opened, body_opened, body_begun, branch_begun}
+use Rattle.fancy_grammar.specs.Trivia.{flags_of_atom, closing_of, layout_end, after_layout, inner_at, inner_of_counts}
+use Rattle.fancy_syntax.specs.Log.{Log, leaf_recorded, left_out, wrapped, branches_opened, body_opened, body_begun, branch_begun}
 use Rattle.fancy_syntax.specs.Log.{branch_ended, choice_ended, body_split, branch_lacked, part_dropped, atom_closed}
 use Rattle.fancy_syntax.specs.Log.{atom_ended, pass, layout_passed, group_opened, text_dropped, conditional_dropped}
 
 -- ---- quantifiers
 
--- after an atom that ignores a quantifier with these counts, which begin at the reach and end at u
-abbrev pub quantifier_dropped : ℕ → State → Counts → Log → Log
-quantifier_dropped start u c l =
-    let k = layout_passed u (text_dropped start (reach_of u.rest) l) in
+-- after an atom that ignores a quantifier with these counts, which begin at w and end at u
+abbrev pub quantifier_dropped : Text → State → Counts → Log → Log
+quantifier_dropped w u c l =
+    let k = layout_passed u (pass (inner_of_counts c w u.rest) (text_dropped (reach_of w) (reach_of u.rest) l)) in
     if_done (suffix u c) (λ m v. text_dropped (layout_end u) (reach_of v.rest) k) k
 
--- after the atom a, with these counts, which begin at the reach
-abbrev pub counted_recorded : ℕ → Tree → State → Log → Counts × Text → Log
-counted_recorded start a s l (c, t) =
+-- after the atom a, with these counts, which begin at w
+abbrev pub counted_recorded : Text → Tree → State → Log → Counts × Text → Log
+counted_recorded w a s l (c, t) =
     let u = at s t in
-    let k = layout_passed u l in
+    let k = layout_passed u (pass (inner_of_counts c w t) l) in
     if is_repeatable s.flags a
     then if_done (suffix u c) (λ m v. wrapped (quantifier_end t m v) (is_swapped s.flags c || m.possessive) k) k
-    else quantifier_dropped start u c l
+    else quantifier_dropped w u c l
 
 -- after the quantifier that follows layout, if one does
 abbrev pub quant_recorded : Tree → State → Log → Log
 quant_recorded a s l =
-    let m = layout_passed s l in choose (counts_ahead s) (counted_recorded (layout_end s) a s m) m
+    let m = layout_passed s l in choose (counts_ahead s) (counted_recorded (after_layout s) a s m) m
 
 -- after adjacent quantifiers, of which k more may follow
 abbrev pub adjacent_recorded : ℕ → Tree → State → Log → Log
@@ -89,9 +89,12 @@ choice_recorded _ end l = l
 abbrev pub added : Tree → Log → Log
 added r l = if is_empty r then left_out l else l
 
--- an atom that is read at once, at s: a leaf, or inline flags
+-- an atom that is read at once, at s: a leaf, or inline flags; without the comments in it, and with them
+abbrev pub token_read : State → Outcome Tree → Log → Log
+token_read s q l = pass (flags_of_atom s q) (leaf_recorded (reach_of s.rest) (end_of q) l)
+
 abbrev pub atom_read : State → Outcome Tree → Log → Log
-atom_read s q l = pass (flags_of_atom s q) (leaf_recorded (reach_of s.rest) (end_of q) l)
+atom_read s q l = pass (inner_at s (end_of q)) (token_read s q l)
 
 -- ---- the productions
 
@@ -128,15 +131,15 @@ abbrev mutual
       group_recorded h (end_of o) (inside_recorded i (group_opened h s t l))
   atom_of_recorded {s} (a_condition {t} {v} i b) l =
       body_recorded b
-      (body_begun (reach_of v.rest) (inside_recorded i (opened (reach_of s.rest) (reach_of t.rest) l)))
-  atom_of_recorded {s} (condition_error {t} i) l = inside_recorded i (opened (reach_of s.rest) (reach_of t.rest) l)
+      (body_begun (reach_of v.rest) (inside_recorded i (branches_opened s t l)))
+  atom_of_recorded {s} (condition_error {t} i) l = inside_recorded i (branches_opened s t l)
   atom_of_recorded {s} (a_body {t} b) l = body_recorded b (body_opened s t l)
   atom_of_recorded {s} {o} (two_branches {t} {u} b e m) l =
       atom_closed (end_of o) false (branch_recorded m
-      (branch_begun (reach_of u) (branch_recorded b (opened (reach_of s.rest) (reach_of t.rest) l))))
+      (branch_begun (reach_of u) (branch_recorded b (branches_opened s t l))))
   atom_of_recorded {s} {o} (one_branch {t} {a} b e) l =
-      stopper_recorded a (end_of o) (branch_recorded b (opened (reach_of s.rest) (reach_of t.rest) l))
-  atom_of_recorded {s} (absent_error {t} b) l = branch_recorded b (opened (reach_of s.rest) (reach_of t.rest) l)
+      stopper_recorded a (end_of o) (branch_recorded b (branches_opened s t l))
+  atom_of_recorded {s} (absent_error {t} b) l = branch_recorded b (branches_opened s t l)
 
   pub inside_recorded : {d : ℕ} {s : State} {o : Outcome Tree} → Inside d s o → Log → Log
   inside_recorded (inside a) l = alternation_recorded a l

@@ -15,6 +15,8 @@ kind_of (kind.InlineFlags before after) = spec.flags before after
 kind_of (kind.Opening around inside) = spec.opening around inside
 kind_of kind.Closing = spec.closing
 kind_of kind.Dropped = spec.dropped
+kind_of kind.InnerComment = spec.inner_comment
+kind_of kind.InnerLineComment = spec.inner_line_comment
 
 abbrev pub recorded_part : RecordedTrivium → spec.Passed
 recorded_part x = spec.part x.start x.end (kind_of x.kind) x.unnamed

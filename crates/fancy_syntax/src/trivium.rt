@@ -1,4 +1,8 @@
 //! What the tree of a pattern does not hold.
+ghost use Rattle.std.specs.Prelude.{◌≡◌};
+ghost use Rattle.fancy_grammar.specs.Trivia.{is_comment, is_inner, is_line_comment};
+ghost use Rattle.fancy_syntax.specs.TriviaViews.{kind_of};
+
 use crate::span::Span;
 use fancy_lex::flags::Flags;
 
@@ -38,4 +42,57 @@ pub enum TriviumKind {
     /// mode, or a part of a conditional without branches, such as `(?(` and `)|)` in `(?(1)|)`, where only the condition is
     /// left.
     Dropped,
+    /// A comment inside a token, `(?#..)`: after the parenthesis of a group, between the letters of flags, in the counts of a
+    /// quantifier, in a hex code or in a word boundary.
+    InnerComment,
+    /// A comment inside a token, from `#` through the end of its line.
+    InnerLineComment,
+}
+
+impl TriviumKind {
+    /// Returns whether it is a comment, between tokens or inside one.
+    pub fn is_comment(self) -> bool
+        ensures { result ≡ is_comment (kind_of self) }
+    {
+        match self {
+            TriviumKind::Comment
+            | TriviumKind::LineComment
+            | TriviumKind::InnerComment
+            | TriviumKind::InnerLineComment => true,
+            TriviumKind::InlineFlags { .. }
+            | TriviumKind::Opening { .. }
+            | TriviumKind::Closing
+            | TriviumKind::Dropped => false,
+        }
+    }
+
+    /// Returns whether it is a comment from `#` through the end of its line.
+    pub fn is_line_comment(self) -> bool
+        ensures { result ≡ is_line_comment (kind_of self) }
+    {
+        match self {
+            TriviumKind::LineComment | TriviumKind::InnerLineComment => true,
+            TriviumKind::Comment
+            | TriviumKind::InnerComment
+            | TriviumKind::InlineFlags { .. }
+            | TriviumKind::Opening { .. }
+            | TriviumKind::Closing
+            | TriviumKind::Dropped => false,
+        }
+    }
+
+    /// Returns whether it is a comment inside a token.
+    pub fn is_inner(self) -> bool
+        ensures { result ≡ is_inner (kind_of self) }
+    {
+        match self {
+            TriviumKind::InnerComment | TriviumKind::InnerLineComment => true,
+            TriviumKind::Comment
+            | TriviumKind::LineComment
+            | TriviumKind::InlineFlags { .. }
+            | TriviumKind::Opening { .. }
+            | TriviumKind::Closing
+            | TriviumKind::Dropped => false,
+        }
+    }
 }

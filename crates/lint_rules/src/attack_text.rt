@@ -31,6 +31,8 @@ pub struct AttackText<'a> {
     pub word: &'a [char],
     /// What makes the engine try all ways.
     pub after: &'a [char],
+    /// Whether fancy-regex hands the part on to the crate regex, which never backtracks.
+    pub is_handed_on: bool,
 }
 
 impl fmt::Display for AttackText<'_> {
@@ -43,6 +45,9 @@ impl fmt::Display for AttackText<'_> {
         write!(f, "{} repeated", QuotedCharacters(self.word))?;
         if !self.after.is_empty() {
             write!(f, ", then {}", QuotedCharacters(self.after))?;
+        }
+        if self.is_handed_on {
+            f.write_str(" (not in fancy-regex)")?;
         }
         Ok(())
     }

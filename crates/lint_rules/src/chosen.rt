@@ -5,6 +5,7 @@ ghost use Rattle.lint_rules.specs.Chosen.{level_of, default_level};
 ghost use Rattle.lint_rules.specs.declared.rule.Rule.{Rule};
 
 use crate::rule::{RULES, Rule, all_rules};
+use dialects::dialect::Dialect;
 
 /// What a report of a rule is.
 #[derive(Debug, Clone, Copy, PartialEq, Eq)]
@@ -45,6 +46,8 @@ pub struct Chosen {
     levels: [Level; RULES.len()],
     /// Whether it is reported too which parts of a pattern no rule looks at, since they are too large.
     pub is_verbose: bool,
+    /// The dialect that the patterns are written in, if it is another one.
+    pub dialect: Option<Dialect>,
 }
 
 impl Chosen {
@@ -55,6 +58,7 @@ impl Chosen {
         let mut chosen = Chosen {
             levels: [Level::Warn; RULES.len()],
             is_verbose: false,
+            dialect: None,
         };
         for row in all_rules() {
             chosen.set(row.rule, row.rule.default_level(is_json));

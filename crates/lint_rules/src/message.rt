@@ -97,8 +97,15 @@ impl Message<'_> {
                     Part(self.related)
                 )
             }
-            ClassProblem::SuspiciousClass(_) | ClassProblem::SuspiciousRange { .. } => {
-                write!(f, "{problem}")
+            ClassProblem::SuspiciousClass(look) => f.write_str(look.message()),
+            ClassProblem::SuspiciousRange { first, last } => {
+                write!(f, "range from {} to {}", first.name(), last.name())
+            }
+            ClassProblem::BarBetweenEscapes => {
+                write!(f, "{part} in a class is a character, not a choice")
+            }
+            ClassProblem::HyphenRange => {
+                write!(f, "{part} is a range, not a hyphen between characters")
             }
         }
     }

@@ -12,8 +12,9 @@ use patterns_text::octal::Octal;
 use patterns_text::shown::Shown;
 use std::fmt;
 
-/// What is said of a part that was not looked at.
-pub const NOT_SEARCHED: &str = "this part is too large to be searched for backtracking";
+/// What is said of a part that was not searched.
+pub const NOT_SEARCHED: &str =
+    "not searched for backtracking: too large, or with a call or an atomic group";
 
 /// What is wrong with a part of a pattern.
 #[derive(Clone, Copy)]
@@ -102,8 +103,9 @@ fn rule_of_class(problem: ClassProblem) -> Rule {
         ClassProblem::Invalid(_) => Rule::InvalidClass,
         ClassProblem::Empty => Rule::EmptyClass,
         ClassProblem::DuplicateCharacters => Rule::DuplicateCharacters,
-        ClassProblem::SuspiciousClass(_) => Rule::SuspiciousClass,
+        ClassProblem::SuspiciousClass(_) | ClassProblem::BarBetweenEscapes => Rule::SuspiciousClass,
         ClassProblem::SuspiciousRange { .. } => Rule::SuspiciousRange,
+        ClassProblem::HyphenRange => Rule::HyphenRange,
         ClassProblem::SubsumedBranch { .. } => Rule::SubsumedBranch,
     }
 }
@@ -185,7 +187,9 @@ impl<'a> Found<'a> {
             | ClassProblem::Empty
             | ClassProblem::DuplicateCharacters
             | ClassProblem::SuspiciousClass(_)
-            | ClassProblem::SuspiciousRange { .. } => None,
+            | ClassProblem::SuspiciousRange { .. }
+            | ClassProblem::BarBetweenEscapes
+            | ClassProblem::HyphenRange => None,
         };
         Found {
             span: finding.span,
@@ -224,9 +228,15 @@ impl<'a> Found<'a> {
                 None => rule,
             },
             Problem::Class(ClassProblem::SuspiciousClass(look)) => Help::Class(look),
+            Problem::Class(ClassProblem::BarBetweenEscapes) => Help::Class(ClassLook::Alternatives),
             Problem::DialectDifference { difference } => Help::Dialect(difference),
             _ => rule,
         }
+    }
+
+    /// Whether it is wrong with a reference that is the octal code of a character in other dialects.
+    pub fn is_octal(&self, pattern: &str) -> bool {
+        matches!(self.help(pattern), Help::Octal(_))
     }
 
     /// The message of its report, in a pattern in which it is found.

@@ -44,6 +44,7 @@ pub enum Rule {
     CharactersInEscape,
     SuspiciousClass,
     SuspiciousRange,
+    HyphenRange,
     SubsumedBranch,
     DialectDifference,
 }
@@ -81,7 +82,7 @@ const WARNS: RuleRow = RuleRow {
 };
 
 /// All rules, in the order in which they are listed, which is that of the variants of `Rule`.
-pub static RULES: [RuleRow; 33] = [
+pub static RULES: [RuleRow; 34] = [
     RuleRow {
         rule: Rule::MissingGroup,
         name: "missing-group",
@@ -344,6 +345,14 @@ pub static RULES: [RuleRow; 33] = [
         what: "a range from one kind of character to another",
         example: r"[A-z]",
         help: "write a range for each kind, as in `A-Za-z`, or a backslash before the hyphen",
+        ..WARNS
+    },
+    RuleRow {
+        rule: Rule::HyphenRange,
+        name: "hyphen-range",
+        what: "a range between punctuation that is likely meant as a hyphen",
+        example: r"[+-/]",
+        help: "write a backslash before the hyphen, or put the hyphen last",
         ..WARNS
     },
     RuleRow {

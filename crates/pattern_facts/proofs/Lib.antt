@@ -1,5 +1,10 @@
 pub mod LimitLemmas
+pub mod BytesLemmas
+pub mod AnchorLemmas
 pub mod RowLemmas
 pub mod ListLemmas
+pub mod NodeLemmas
 pub mod MatchLemmas
 pub mod FirstLemmas
+pub mod PrefixLemmas
+pub mod PlainLemmas

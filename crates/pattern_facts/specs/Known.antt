@@ -1,6 +1,7 @@
 -- What is known of the matches of a node.
 use Rattle.std.specs.Prelude.{◌≡◌, ◌≢◌, ◌+◌, ◌<◌, ⊤, Bool, true, false, ◌⊎◌, List, ◌++◌, length, Option, None, Some, IsSomeAnd}
 use Rattle.std.specs.List.{AllZip}
+use Rattle.fancy_lex.specs.Text.{bytes}
 use Rattle.fancy_grammar.specs.Label as label
 use Rattle.fancy_grammar.specs.Label.{Leaf, Wrap, Row}
 use Rattle.fancy_grammar.specs.Tree.{Tree, Trees, leaf, over, row, no_trees, more_trees, any, literal, delegate}
@@ -12,8 +13,12 @@ use Rattle.pattern_matches.specs.Defined.{IsDefined}
 use Rattle.pattern_matches.specs.Lengths.{min_length, max_length}
 use Rattle.pattern_matches.specs.Matches.{Assertions, Matches}
 use Rattle.pattern_matches.specs.Parts.{Position}
-use Rattle.pattern_facts.specs.Lengths.{AreLengths, IsWithin, can_be_empty, is_constant}
+use Rattle.pattern_facts.specs.Anchors.{MatchesLieAt, is_anchored}
+use Rattle.pattern_facts.specs.Anchors as side
+use Rattle.pattern_facts.specs.Bytes.{AreBytes}
+use Rattle.pattern_facts.specs.Lengths.{AreLengths, IsWithin, Measure, can_be_empty, is_constant}
 use Rattle.pattern_facts.specs.declared.lengths.Lengths.{Lengths}
+use Rattle.pattern_facts.specs.declared.node_facts.Facts.{Facts}
 
 -- ---- not known
 
@@ -65,32 +70,42 @@ is_empty_leaf (leaf label.empty) = true
 is_empty_leaf (leaf (label.assertion a)) = true
 is_empty_leaf _ = false
 
--- the lengths are those of the tree, whose matches are defined
-abbrev pub IsKnownAs : Bool → Tree → Lengths → Type 0
-IsKnownAs unicode t l = IsDefined unicode t × AreLengths (min_length t) (max_length t) l
+-- the facts are those of the tree, whose matches are defined
+pub record IsKnownAs (unicode : Bool) (t : Tree) (f : Facts) : Type 0 where
+  pub defined : IsDefined unicode t
+  pub characters : AreLengths (min_length t) (max_length t) f.characters
+  pub bytes : AreBytes unicode t f.bytes
+  pub start : f.is_anchored_at_start ≡ is_anchored side.front t
+  pub end : f.is_anchored_at_end ≡ is_anchored side.back t
 
-abbrev pub IsLengthsOf : Bool → Tree → Option Lengths → Type 0
-IsLengthsOf unicode t None = IsUnknown unicode t
-IsLengthsOf unicode t (Some l) = IsKnownAs unicode t l
+abbrev pub IsFactsOf : Bool → Tree → Option Facts → Type 0
+IsFactsOf unicode t None = IsUnknown unicode t
+IsFactsOf unicode t (Some f) = IsKnownAs unicode t f
 
 -- a row for each of these nodes is added
-abbrev pub Adds : Bool → List Tree → List (Option Lengths) → List (Option Lengths) → Type 0
-Adds unicode ts old new =
-    (more : List (Option Lengths)) × (new ≡ old ++ more) × AllZip (IsLengthsOf unicode) ts more
+abbrev pub Adds : Bool → List Tree → List (Option Facts) → List (Option Facts) → Type 0
+Adds unicode ts old new = (more : List (Option Facts)) × (new ≡ old ++ more) × AllZip (IsFactsOf unicode) ts more
 
 -- ---- what that says of matches
 
--- What the tree matches is defined. Each match has a length within these, is not empty where they say so, and all have
--- one length where they say so.
-pub record HasLengths (unicode : Bool) (t : Tree) (l : Lengths) : Type 0 where
-  pub defined : IsDefined unicode t
-  pub lengths : AreLengths (min_length t) (max_length t) l
-  pub within : (holds : Assertions) (p q : Position) → Matches unicode holds t p q → IsWithin l p q
-  pub not_empty : can_be_empty l ≡ false → (holds : Assertions) (p q : Position) → Matches unicode holds t p q → p ≢ q
+-- each match has a length within these, and all have one length where they say so
+pub record AreLongAs (unicode : Bool) (t : Tree) (size : Measure) (l : Lengths) : Type 0 where
+  pub within : (holds : Assertions) (p q : Position) → Matches unicode holds t p q → IsWithin size l p q
   pub constant : is_constant l ≡ true → (holds : Assertions) (p q : Position) → Matches unicode holds t p q →
-      length q.before ≡ length p.before + l.min
+      size q.before ≡ size p.before + l.min
+
+-- What the tree matches is defined, and its matches are as the facts say: so many characters and bytes; not empty; at
+-- the start or the end of the text.
+pub record HasFacts (unicode : Bool) (t : Tree) (f : Facts) : Type 0 where
+  pub known : IsKnownAs unicode t f
+  pub characters : AreLongAs unicode t length f.characters
+  pub bytes : AreLongAs unicode t bytes f.bytes
+  pub not_empty : can_be_empty f.characters ≡ false → (holds : Assertions) (p q : Position) →
+      Matches unicode holds t p q → p ≢ q
+  pub start : f.is_anchored_at_start ≡ true → MatchesLieAt side.front unicode t
+  pub end : f.is_anchored_at_end ≡ true → MatchesLieAt side.back unicode t
 
 -- what a row says of its node
-abbrev pub IsRowOf : Bool → Tree → Option Lengths → Type 0
+abbrev pub IsRowOf : Bool → Tree → Option Facts → Type 0
 IsRowOf unicode t None = IsUnknown unicode t
-IsRowOf unicode t (Some l) = HasLengths unicode t l
+IsRowOf unicode t (Some f) = HasFacts unicode t f

@@ -1,9 +1,10 @@
--- Lengths of matches, in characters.
-use Rattle.std.specs.Prelude.{◌≡◌, ℕ, ◌+◌, ◌==◌, ⊤, Bool, false, min, nat_lt, if◌then◌else◌, Option, None, Some}
+-- Lengths of matches, in characters or bytes.
+use Rattle.std.specs.Prelude.{◌≡◌, ℕ, ◌+◌, ◌≤◌, ◌==◌, ⊤, Bool, false, min, nat_lt, if◌then◌else◌, Option, None, Some}
 use Rattle.fancy_lex.specs.Quantifier.{most}
+use Rattle.fancy_lex.specs.Text.{Text}
 use Rattle.fancy_grammar.specs.Label as label
 use Rattle.fancy_grammar.specs.Label.{Row}
-use Rattle.pattern_matches.specs.Lengths.{HasAtLeast, HasAtMost}
+use Rattle.pattern_matches.specs.Lengths.{row_most}
 use Rattle.pattern_matches.specs.Parts.{Position}
 use Rattle.pattern_facts.specs.declared.lengths.Lengths.{Lengths}
 use Rattle.pattern_facts.specs.declared.lengths.MaxLength.{MaxLength}
@@ -30,14 +31,18 @@ is_exactly Unlimited m = false
 abbrev pub is_constant : Lengths → Bool
 is_constant l = is_exactly l.max l.min
 
--- the part from p to q has no more characters than the limit
-abbrev pub IsWithinMax : MaxLength → Position → Position → Type 0
-IsWithinMax (AtMost n) p q = HasAtMost n p q
-IsWithinMax Unlimited p q = ⊤
+-- how long a text is: `length` counts its characters, and `bytes` its bytes in UTF-8
+abbrev pub Measure : Type 0
+Measure = Text → ℕ
 
--- the part from p to q has as many characters as the lengths say
-abbrev pub IsWithin : Lengths → Position → Position → Type 0
-IsWithin l p q = HasAtLeast l.min p q × IsWithinMax l.max p q
+-- the part from p to q is no longer than the limit
+abbrev pub IsWithinMax : Measure → MaxLength → Position → Position → Type 0
+IsWithinMax size (AtMost n) p q = size q.before ≤ size p.before + n
+IsWithinMax size Unlimited p q = ⊤
+
+-- the part from p to q is as long as the lengths say
+abbrev pub IsWithin : Measure → Lengths → Position → Position → Type 0
+IsWithin size l p q = (size p.before + l.min ≤ size q.before) × IsWithinMax size l.max p q
 
 -- ---- lists of trees
 
@@ -49,3 +54,8 @@ row_of kind.Alt = label.alt
 abbrev pub least_of_both : ListKind → ℕ → ℕ → ℕ
 least_of_both kind.Concat a b = a + b
 least_of_both kind.Alt a b = min a b
+
+-- the third lengths are those of one tree of the first ones, after or beside one of the second ones
+abbrev pub ArePut : ListKind → Lengths → Lengths → Lengths → Type 0
+ArePut k l next put = (a b : ℕ) (m n : Option ℕ) → AreLengths a m l → AreLengths b n next →
+    AreLengths (least_of_both k a b) (row_most (row_of k) m n) put

@@ -1,5 +1,9 @@
 pub mod Nodes
 pub mod Lengths
+pub mod Bytes
+pub mod Anchors
 pub mod Known
 pub mod Lists
 pub mod First
+pub mod Easy
+pub mod Prefix

@@ -7,8 +7,9 @@ ghost use Rattle.pattern_facts.specs.First.{AreBegun, HasBeginning, IsBegun, IsB
 ghost use Rattle.pattern_facts.specs.Lengths.{row_of};
 
 use crate::lengths::ListKind;
+use crate::plain::meaning_of;
 use crate::rows::is_empty_leaf;
-use class_meaning::{CharacterSet, ClassMeaning, characters_of};
+use class_meaning::{CharacterSet, ClassMeaning};
 use fancy_syntax::expr::{Expr, Shape, Wrap};
 use regex_class::Class;
 use std::alloc::{AllocError, Global};
@@ -44,7 +45,7 @@ fn beginning_of_leaf(
     if is_empty_leaf(node) {
         return Ok(Some(empty(alloc)?));
     }
-    match characters_of(alloc, node, unicode)? {
+    match meaning_of(alloc, node, unicode)? {
         ClassMeaning::Characters(characters) => Ok(Some(Beginning {
             characters,
             can_be_empty: false,

@@ -1,11 +1,11 @@
-//! How many characters the matches of a node have.
+//! How long the matches of a node are, in characters or bytes.
 ghost use Rattle.std.specs.Prelude.{◌≡◌, ℕ, ◌*◌, Option, Some};
 ghost use Rattle.fancy_grammar.specs.Label as label;
 ghost use Rattle.pattern_facts.specs.Lengths as spec;
-ghost use Rattle.pattern_facts.specs.Lengths.{AreLengths, limit_of, row_of};
+ghost use Rattle.pattern_facts.specs.Lengths.{AreLengths, ArePut, limit_of};
 ghost use Rattle.pattern_matches.specs.Lengths.{row_most, turns_most};
 
-/// How many characters a match has at most.
+/// How long a match is at most.
 #[derive(Debug, Clone, Copy, PartialEq, Eq)]
 pub enum MaxLength {
     /// At most so many.
@@ -14,7 +14,7 @@ pub enum MaxLength {
     Unlimited,
 }
 
-/// How many characters each match of a node has: at least, and at most.
+/// How long each match of a node is, in characters or bytes: at least, and at most.
 #[derive(Debug, Clone, Copy, PartialEq, Eq)]
 pub struct Lengths {
     /// At least so many. `usize::MAX` stands for more too.
@@ -100,10 +100,19 @@ impl Lengths {
         }
     }
 
+    /// At least so many, and at most so many.
+    pub(crate) fn between(least: usize, greatest: usize) -> Lengths
+        ensures { AreLengths least (Some greatest) result }
+    {
+        Lengths {
+            min: least,
+            max: MaxLength::AtMost(greatest),
+        }
+    }
+
     /// The lengths of a tree of these lengths, after or beside one of the lengths of `self`.
     pub(crate) fn with(self, kind: ListKind, other: Lengths) -> Lengths
-        ensures { (a b : ℕ) (m n : Option ℕ) → AreLengths a m self → AreLengths b n other →
-            AreLengths (spec.least_of_both kind a b) (row_most (row_of kind) m n) result }
+        ensures { ArePut kind self other result }
     {
         match kind {
             ListKind::Concat => Lengths {

@@ -6,11 +6,13 @@ ghost use Rattle.fancy_syntax.specs.Shape.{label_of};
 ghost use Rattle.fancy_syntax.specs.View.{view, views};
 ghost use Rattle.pattern_facts.specs.Lengths.{row_of};
 ghost use Rattle.pattern_facts.specs.Known as spec;
-ghost use Rattle.pattern_facts.specs.Known.{Adds, IsLengthsOf, IsRowOf};
+ghost use Rattle.pattern_facts.specs.Known.{Adds, IsFactsOf, IsRowOf};
 ghost use Rattle.pattern_facts.specs.Lists.{IsTaken};
 ghost use Rattle.pattern_facts.specs.Nodes.{nodes_of, nodes_below, nodes_of_all};
 
-use crate::lengths::{Lengths, ListKind};
+use crate::lengths::ListKind;
+use crate::node_facts::{Facts, is_text_end, is_text_start, no_branch};
+use crate::plain::plain_facts;
 use class_meaning::{ClassMeaning, characters_of};
 use fancy_syntax::expr::{Expr, Shape, Wrap};
 use std::alloc::{AllocError, Global};
@@ -22,31 +24,34 @@ pub(crate) fn is_empty_leaf(node: &Expr) -> bool
     matches!(node, Expr::Empty | Expr::Assertion(_))
 }
 
-/// How long the matches of a leaf are. A class, a literal or a dot is known if the engine reads it as one character.
-fn leaf_lengths(alloc: Global, node: &Expr, unicode: bool) -> Result<Option<Lengths>, AllocError>
+/// The facts of a leaf. A class, a literal or a dot is known if the engine reads it as one character.
+fn leaf_facts(alloc: Global, node: &Expr, unicode: bool) -> Result<Option<Facts>, AllocError>
     requires { is_leaf (view node.now) ≡ true }
-    ensures { IfOk result (IsLengthsOf unicode (view node.now)) }
+    ensures { IfOk result (IsFactsOf unicode (view node.now)) }
 {
     if is_empty_leaf(node) {
-        return Ok(Some(Lengths::exactly(0)));
+        return Ok(Some(Facts::empty(is_text_start(node), is_text_end(node))));
+    }
+    if let Some(facts) = plain_facts(node) {
+        return Ok(Some(facts));
     }
     match characters_of(alloc, node, unicode)? {
-        ClassMeaning::Characters(_) => Ok(Some(Lengths::exactly(1))),
+        ClassMeaning::Characters(set) => Ok(Some(Facts::one_of(&set))),
         ClassMeaning::Refused(_) | ClassMeaning::NotOneCharacter => Ok(None),
     }
 }
 
-/// How long the matches of a node over one child are.
-fn lengths_around(wrap: Wrap, child: Option<Lengths>) -> Option<Lengths>
-    ensures { (unicode : Bool) (t : Tree) → IsLengthsOf unicode t child →
-        IsLengthsOf unicode (over (label_of wrap) t) result }
+/// The facts of a node over one child.
+fn facts_around(wrap: Wrap, child: Option<Facts>) -> Option<Facts>
+    ensures { (unicode : Bool) (t : Tree) → IsFactsOf unicode t child →
+        IsFactsOf unicode (over (label_of wrap) t) result }
 {
     let Some(child) = child else {
         return None;
     };
     match wrap {
         Wrap::Group => Some(child),
-        Wrap::LookAround(_) => Some(Lengths::exactly(0)),
+        Wrap::LookAround(kind) => Some(child.looked_for(kind)),
         Wrap::Repeat { lo, hi, .. } if lo <= hi => Some(child.repeated(lo, hi)),
         Wrap::Repeat { .. }
         | Wrap::AtomicGroup
@@ -56,10 +61,10 @@ fn lengths_around(wrap: Wrap, child: Option<Lengths>) -> Option<Lengths>
     }
 }
 
-/// How long the matches of some trees of a list and the next one are, after or beside one another.
-fn with_next(kind: ListKind, before: Option<Lengths>, next: Option<Lengths>) -> Option<Lengths>
+/// The facts of some trees of a list and the next one, after or beside one another.
+fn with_next(kind: ListKind, before: Option<Facts>, next: Option<Facts>) -> Option<Facts>
     ensures { (unicode : Bool) (all rest : Trees) (t : Tree) → IsTaken unicode kind all (more_trees t rest) before →
-        IsLengthsOf unicode t next → IsTaken unicode kind all rest result }
+        IsFactsOf unicode t next → IsTaken unicode kind all rest result }
 {
     match before {
         Some(before) => match next {
@@ -70,21 +75,21 @@ fn with_next(kind: ListKind, before: Option<Lengths>, next: Option<Lengths>) -> 
     }
 }
 
-/// Adds the rows of the trees, and returns how long the matches of a list of them are.
+/// Adds the rows of the trees, and returns the facts of a list of them.
 #[cycle(facts)]
 fn add_list(
     alloc: Global,
-    rows: &mut Vec<Option<Lengths>>,
+    rows: &mut Vec<Option<Facts>>,
     kind: ListKind,
     trees: &[Expr],
     unicode: bool,
-) -> Result<Option<Lengths>, AllocError>
+) -> Result<Option<Facts>, AllocError>
     ensures rows { OnOk result (Adds unicode (nodes_of_all (trees_of (views trees.now)))
         rows.old.items rows.new.items) }
-    ensures lengths { IfOk result (IsLengthsOf unicode (row (row_of kind) (trees_of (views trees.now)))) }
+    ensures facts { IfOk result (IsFactsOf unicode (row (row_of kind) (trees_of (views trees.now)))) }
 {
     let Some((first, more)) = trees.split_first() else {
-        return Ok(Some(Lengths::exactly(0)));
+        return Ok(Some(Facts::empty(no_branch(kind), no_branch(kind))));
     };
     let mut all = add_node(alloc, rows, first, unicode)?;
     for tree in more {
@@ -94,22 +99,22 @@ fn add_list(
     Ok(all)
 }
 
-/// Adds the rows of the nodes below a node, and returns how long its own matches are.
+/// Adds the rows of the nodes below a node, and returns its own facts.
 #[cycle(facts)]
 fn add_below(
     alloc: Global,
-    rows: &mut Vec<Option<Lengths>>,
+    rows: &mut Vec<Option<Facts>>,
     tree: &Expr,
     unicode: bool,
-) -> Result<Option<Lengths>, AllocError>
+) -> Result<Option<Facts>, AllocError>
     ensures rows { OnOk result (Adds unicode (nodes_below (view tree.now)) rows.old.items rows.new.items) }
-    ensures lengths { IfOk result (IsLengthsOf unicode (view tree.now)) }
+    ensures facts { IfOk result (IsFactsOf unicode (view tree.now)) }
 {
     match tree.shape() {
-        Shape::Leaf => leaf_lengths(alloc, tree, unicode),
+        Shape::Leaf => leaf_facts(alloc, tree, unicode),
         Shape::Around(wrap, child) => {
             let below = add_node(alloc, rows, child, unicode)?;
-            Ok(lengths_around(wrap, below))
+            Ok(facts_around(wrap, below))
         }
         Shape::Concat(pieces) => add_list(alloc, rows, ListKind::Concat, pieces, unicode),
         Shape::Alt(branches) => add_list(alloc, rows, ListKind::Alt, branches, unicode),
@@ -131,36 +136,36 @@ fn add_below(
     }
 }
 
-/// Adds the rows of a tree, and returns how long its matches are.
+/// Adds the rows of a tree, and returns the facts of its root.
 #[cycle(facts)]
 fn add_node(
     alloc: Global,
-    rows: &mut Vec<Option<Lengths>>,
+    rows: &mut Vec<Option<Facts>>,
     tree: &Expr,
     unicode: bool,
-) -> Result<Option<Lengths>, AllocError>
+) -> Result<Option<Facts>, AllocError>
     ensures rows { OnOk result (Adds unicode (nodes_of (view tree.now)) rows.old.items rows.new.items) }
-    ensures lengths { IfOk result (IsLengthsOf unicode (view tree.now)) }
+    ensures facts { IfOk result (IsFactsOf unicode (view tree.now)) }
 {
     let index = rows.len();
     rows.push(None)?;
-    let lengths = add_below(alloc, rows, tree, unicode)?;
+    let facts = add_below(alloc, rows, tree, unicode)?;
     if let Some(row) = rows.get_mut(index) {
-        *row = lengths;
+        *row = facts;
     }
-    Ok(lengths)
+    Ok(facts)
 }
 
-/// Returns how many characters the matches of each node have, in preorder, as spans are listed. `None` where it is not
-/// known, because of the node or of one below it: a reference or a call, an atomic group, a conditional, an absent
-/// form, `\R`, `\K`, `\G`, a byte, a verb, or a class that the engine does not read as one character. `unicode` says
-/// whether it reads with Unicode, as under `FLAG_UNICODE`. Each class, literal and dot is read. Fails if memory runs
-/// out.
+/// Returns what is known of the matches of each node, in preorder, as spans are listed. `None` where nothing is known,
+/// because of the node or of one below it: a reference or a call, an atomic group, a conditional, an absent form, `\R`,
+/// `\K`, `\G`, a byte, a verb, or a class that the engine does not read as one character. `unicode` says whether it reads
+/// with Unicode, as under `FLAG_UNICODE`. Each class and dot is read, and each literal that ignores case. Fails if memory
+/// runs out.
 ///
 /// ```rust
 /// let rows = facts(alloc, &tree.expr, true)?; // for `a|bc*` of the alternation, `a`, the concatenation, `b`, ..
 /// ```
-pub fn facts(alloc: Global, tree: &Expr, unicode: bool) -> Result<Vec<Option<Lengths>>, AllocError>
+pub fn facts(alloc: Global, tree: &Expr, unicode: bool) -> Result<Vec<Option<Facts>>, AllocError>
     ensures { IfOk result (λ rows. AllZip (IsRowOf unicode) (nodes_of (view tree.now)) rows.items) }
 {
     let mut rows = Vec::new(alloc);

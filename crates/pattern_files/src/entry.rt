@@ -4,6 +4,7 @@ ghost use Rattle.std.specs.Prelude.{◌≡◌, None};
 use crate::lines::{LineRecord, lines_in};
 use crate::record::{Record, RecordRefusal};
 use crate::values::refusal::JsonRefusal;
+use dialects::dialect::Dialect;
 use fancy_syntax::span::Span;
 use json::MAX_LEN;
 use patterns_text::error::RunError;
@@ -20,6 +21,8 @@ pub struct Entry<'a> {
     pub pattern: &'a str,
     /// The flags that its record gives it.
     pub flags: Option<u32>,
+    /// The dialect that its record gives it.
+    pub dialect: Option<Dialect>,
     /// The name of the file that it is in, for reports, and where in it.
     pub file: &'a str,
     pub spot: Spot<'a>,
@@ -46,6 +49,7 @@ impl<'a> Entry<'a> {
         Entry {
             pattern,
             flags: None,
+            dialect: None,
             file,
             spot: Spot::Line(number),
             span: Span {

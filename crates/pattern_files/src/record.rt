@@ -1,6 +1,7 @@
 //! Records of patterns that were extracted from sources: each is an object of JSON.
 use crate::entry::Entry;
 use crate::values::trail::Tokens;
+use dialects::dialect::{DIALECT_WORD, Dialect};
 use fancy_lex::flag_word::{FLAG_WORD, flags_named};
 use fancy_syntax::span::Span;
 use json::{Scratch, Token};
@@ -17,6 +18,7 @@ use thiserror::Error;
 enum Member {
     Pattern,
     Flags,
+    Dialect,
     File,
     Line,
     Column,
@@ -32,6 +34,7 @@ impl Member {
         match name {
             "pattern" => Some(Member::Pattern),
             "flags" => Some(Member::Flags),
+            "dialect" => Some(Member::Dialect),
             "file" => Some(Member::File),
             "line" => Some(Member::Line),
             "column" => Some(Member::Column),
@@ -47,6 +50,7 @@ impl Member {
         match self {
             Member::Pattern => "pattern",
             Member::Flags => "flags",
+            Member::Dialect => "dialect",
             Member::File => "file",
             Member::Line => "line",
             Member::Column => "column",
@@ -60,7 +64,8 @@ impl Member {
     /// What its value is.
     fn expected(self) -> &'static str {
         match self {
-            Member::Pattern | Member::Flags | Member::File | Member::Syntax => "a string",
+            Member::Pattern | Member::Flags | Member::Dialect | Member::File | Member::Syntax =>
+                "a string",
             Member::Line | Member::Column => "a number from 1",
             Member::Columns | Member::Lines => "a list of numbers from 1",
             Member::Literals => "a list of numbers from 0",
@@ -71,7 +76,12 @@ impl Member {
     fn least(self) -> u64 {
         match self {
             Member::Line | Member::Column | Member::Columns | Member::Lines => 1,
-            Member::Pattern | Member::Flags | Member::File | Member::Syntax | Member::Literals => 0,
+            Member::Pattern
+            | Member::Flags
+            | Member::Dialect
+            | Member::File
+            | Member::Syntax
+            | Member::Literals => 0,
         }
     }
 }
@@ -87,6 +97,8 @@ enum RecordProblem {
     WrongType(Member),
     /// The flags have a character that is no letter of theirs.
     UnknownFlags,
+    /// The dialect is not known.
+    UnknownDialect,
     /// A list has not one entry for each character of the pattern and one for its end.
     WrongLength(Member),
     /// The numbers of the literals are not pairs, each of a start and an end.
@@ -102,6 +114,7 @@ impl fmt::Display for RecordProblem {
                 write!(f, "{} must be {}", member.name(), member.expected())
             }
             RecordProblem::UnknownFlags => write!(f, "flags must be {FLAG_WORD}"),
+            RecordProblem::UnknownDialect => write!(f, "dialect must be {DIALECT_WORD}"),
             RecordProblem::WrongLength(member) => write!(
                 f,
                 "{} must have one entry more than the pattern has characters",
@@ -159,6 +172,7 @@ struct NumberList {
 struct Members<'a> {
     pattern: Option<&'a str>,
     flags: Option<u32>,
+    dialect: Option<Dialect>,
     file: Option<&'a str>,
     line: Option<u64>,
     column: Option<u64>,
@@ -174,6 +188,7 @@ impl Members<'_> {
         Members {
             pattern: None,
             flags: None,
+            dialect: None,
             file: None,
             line: None,
             column: None,
@@ -191,6 +206,8 @@ pub struct Record<'a> {
     pub pattern: &'a str,
     /// The flags that it is parsed under, if they are known.
     pub flags: Option<u32>,
+    /// The dialect that it is written in, if it is known.
+    pub dialect: Option<Dialect>,
     /// The name of its source, if that is known.
     pub file: Option<&'a str>,
     /// The line that the record is.
@@ -206,6 +223,7 @@ impl<'a> Record<'a> {
         Entry {
             pattern: self.pattern,
             flags: self.flags,
+            dialect: self.dialect,
             file: self.file.unwrap_or(file),
             spot: Spot::Source(&self.positions),
             span: Span { start: 0, end: 0 },
@@ -317,11 +335,21 @@ impl<'a> RecordReader<'a> {
         }
     }
 
+    /// Reads the name of a dialect.
+    fn dialect(&mut self) -> Result<Dialect, RecordError> {
+        let name = self.text(Member::Dialect)?;
+        match Dialect::named(name) {
+            Some(dialect) => Ok(dialect),
+            None => Err(refused(self.tokens.position(), RecordProblem::UnknownDialect)),
+        }
+    }
+
     /// Reads the value of a member.
     fn read_value(&mut self, member: Member) -> Result<(), RecordError> {
         match member {
             Member::Pattern => self.members.pattern = Some(self.text(member)?),
             Member::Flags => self.members.flags = Some(self.flags()?),
+            Member::Dialect => self.members.dialect = Some(self.dialect()?),
             Member::File => self.members.file = Some(self.text(member)?),
             Member::Line => self.members.line = Some(self.number(member)?),
             Member::Column => self.members.column = Some(self.number(member)?),
@@ -425,12 +453,13 @@ fn record_of<'a>(
         return Err(refused(start, RecordProblem::NoPattern));
     };
     let length = pattern.chars().count().saturating_add(1);
-    let (flags, file) = (members.flags, members.file);
+    let (flags, dialect, file) = (members.flags, members.dialect, members.file);
     let mut members = members;
     let spelling = spelling_of(alloc, members.syntax, members.literals.take())?;
     Ok(Record {
         pattern,
         flags,
+        dialect,
         file,
         line,
         positions: positions_of(alloc, members, length, line)?,
@@ -439,7 +468,7 @@ fn record_of<'a>(
 }
 
 /// Reads the record that a text of JSON is, which is the line of this number. It is refused if it is no object, has no
-/// pattern, has a member with a value of another type or other letters than those of flags, a list that has not one entry for
+/// pattern, has a member with a value of another type, other letters than those of flags or an unknown dialect, a list that has not one entry for
 /// each character and one for the end, or literals without an end. Other members are passed over, and a syntax that is not
 /// known.
 pub(crate) fn read_record<'a>(

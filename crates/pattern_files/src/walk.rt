@@ -225,6 +225,7 @@ fn text_entry<'a>(
     Entry {
         pattern,
         flags: None,
+        dialect: None,
         file: json.file,
         spot,
         span: Span {

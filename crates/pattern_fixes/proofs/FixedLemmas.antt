@@ -1,10 +1,9 @@
 -- Trees with reports fixed, node by node. In each, o is the result of a test, and u says whether patterns are read with
 -- Unicode.
 use Rattle.std.proofs.Common.{◌≡◌, ℕ, suc, ◌+◌, ◌<◌, ◌≤◌, Bool, List, [], ◌∷◌, ◌++◌, length, take, drop, get_or}
-use Rattle.std.proofs.Common.{Result, Ok, Err, IfOk, IsTrue, Vec, Global, Contains}
+use Rattle.std.proofs.Common.{Result, Ok, Err, IfOk, IsTrue, Vec, Global, Contains, chars}
 use Rattle.std.proofs.Common.{sym, ap, ◌∙◌, subst, drop-cons, add-one}
 use Rattle.std.proofs.lemmas.List.{drop_all, nil_from_length, map_more}
-use Rattle.fancy_lex.specs.Text.{Text}
 use Rattle.fancy_lex.specs.declared.flags.Flags.{Flags}
 use Rattle.fancy_grammar.specs.GroupInfo.{GroupInfo}
 use Rattle.fancy_grammar.specs.Label as label
@@ -17,6 +16,7 @@ use Rattle.fancy_syntax.specs.View.{view, views}
 use Rattle.fancy_syntax.specs.declared.expr.Expr as node
 use Rattle.fancy_syntax.specs.declared.expr.Expr.{Expr}
 use Rattle.pattern_fixes.specs.Fixed as fixed
+use Rattle.fancy_grammar.specs.Trivia.{Trivium, IsTriviaOf, comment_texts}
 use Rattle.pattern_fixes.specs.Fixed.{IsFixed, AreFixed, AreBranches, IsFixedText}
 
 -- ---- nodes
@@ -126,8 +126,16 @@ branches_end u es i rest h none before =
 
 -- ---- a text
 
-pub text_case : {E : Type 0} (o : Result Bool E) (f : Flags) (text : Text) (old new : Tree) (m n : GroupInfo) (u : Bool) →
-    IsTreeOf f text new n → n ≡ m → u ≡ f.unicode → IfOk o (λ b. IsTrue b → IsFixed u old new) →
-    IfOk o (λ b. IsTrue b → IsFixedText f text old m)
-text_case o f text old new m n u tree same is h =
-    if_true o (λ x. (new, subst (IsTreeOf f text new) same tree, subst (λ b. IsFixed b old new) is x)) h
+pub text_case : {E : Type 0} (o : Result Bool E) (f : Flags) (text : List ℕ) (old new : Tree) (m n : GroupInfo) (u : Bool)
+    (l : List Trivium) (cs : List (List ℕ)) → IsTreeOf f (chars text) new n → IsTriviaOf f (chars text) l →
+    cs ≡ comment_texts text l → n ≡ m → u ≡ f.unicode → IfOk o (λ b. IsTrue b → IsFixed u old new) →
+    IfOk o (λ b. IsTrue b → IsFixedText f text old m cs)
+text_case o f text old new m n u l cs tree trivia kept same is h =
+    if_true o (λ x. (
+      new,
+      l,
+      subst (IsTreeOf f (chars text) new) same tree,
+      trivia,
+      subst (λ b. IsFixed b old new) is x,
+      kept,
+    )) h

@@ -1,4 +1,5 @@
 mod SetLemmas
 mod GroupLemmas
+mod CommentLemmas
 mod FixedLemmas
 mod MatchesLemmas

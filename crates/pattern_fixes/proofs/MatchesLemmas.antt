@@ -1,7 +1,6 @@
 -- Trees with reports fixed match the same parts of each text.
-use Rattle.std.proofs.Common.{Bool, ◌⊎◌, inl, inr, List, [], ◌∷◌, ◌++◌, Contains, sym, ◌∙◌}
+use Rattle.std.proofs.Common.{ℕ, Bool, chars, ◌⊎◌, inl, inr, List, [], ◌∷◌, ◌++◌, Contains, sym, ◌∙◌}
 use Rattle.regex_class.specs.Ranges.{Range}
-use Rattle.fancy_lex.specs.Text.{Text}
 use Rattle.fancy_lex.specs.declared.flags.Flags.{Flags}
 use Rattle.fancy_grammar.specs.GroupInfo.{GroupInfo}
 use Rattle.fancy_grammar.specs.Label as label
@@ -144,11 +143,11 @@ mutual
 
 -- ---- a text
 
-pub keeps_matches : (f : Flags) (text : Text) (t : Tree) (m : GroupInfo) → IsFixedText f text t m →
-    KeepsMatches f text t m
-keeps_matches f text t m k = record {
+pub keeps_matches : (f : Flags) (text : List ℕ) (t : Tree) (m : GroupInfo) (cs : List (List ℕ)) →
+    IsFixedText f text t m cs → KeepsMatches f (chars text) t m
+keeps_matches f text t m cs k = record {
   tree = k.0;
-  parsed = k.1;
-  defined = λ d. stays_defined f.unicode t k.0 k.2 d;
-  same = λ d. keeps f.unicode t k.0 k.2;
+  parsed = k.2;
+  defined = λ d. stays_defined f.unicode t k.0 k.4 d;
+  same = λ d. keeps f.unicode t k.0 k.4;
 }

@@ -1,11 +1,11 @@
 -- What the tree of a pattern may become where reports on the pattern are fixed.
-use Rattle.std.specs.Prelude.{◌≡◌, ℕ, Bool, List, [], ◌∷◌, ◌++◌, Contains, IsSomeAnd}
-use Rattle.fancy_lex.specs.Text.{Text}
+use Rattle.std.specs.Prelude.{◌≡◌, ℕ, Bool, List, [], ◌∷◌, ◌++◌, Contains, IsSomeAnd, chars}
 use Rattle.fancy_lex.specs.declared.flags.Flags.{Flags}
 use Rattle.fancy_grammar.specs.GroupInfo.{GroupInfo}
 use Rattle.fancy_grammar.specs.Label.{Wrap, Row}
 use Rattle.fancy_grammar.specs.ParseResult.{IsTreeOf}
 use Rattle.fancy_grammar.specs.ReadAs.{unpositioned}
+use Rattle.fancy_grammar.specs.Trivia.{Trivium, IsTriviaOf, comment_texts}
 use Rattle.fancy_grammar.specs.Tree.{Tree, Trees, over, row, no_trees, more_trees, repeat, alt, trees_of}
 use Rattle.class_meaning.specs.CharacterSet.{has_character}
 use Rattle.class_meaning.specs.ClassMeaning.{IsMeaningOf}
@@ -52,6 +52,8 @@ mutual
     left_out : {before ts us : List Tree} {t : Tree} → Contains before t → AreBranches unicode (before ++ t ∷ []) ts us →
         AreBranches unicode before (t ∷ ts) us
 
--- the text is parsed under the flags, with this group information, and its tree is this one with some reports fixed
-abbrev pub IsFixedText : Flags → Text → Tree → GroupInfo → Type 0
-IsFixedText f text t m = (u : Tree) × IsTreeOf f text u m × IsFixed f.unicode t u
+-- the text is parsed under the flags, with this group information and these comments, byte for byte, and its tree is this one
+-- with some reports fixed
+abbrev pub IsFixedText : Flags → List ℕ → Tree → GroupInfo → List (List ℕ) → Type 0
+IsFixedText f text t m cs = (u : Tree) × (l : List Trivium) × IsTreeOf f (chars text) u m × IsTriviaOf f (chars text) l
+    × IsFixed f.unicode t u × (cs ≡ comment_texts text l)

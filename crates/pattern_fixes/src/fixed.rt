@@ -1,12 +1,15 @@
 //! Patterns with their reports fixed.
-ghost use Rattle.std.specs.Prelude.{◌≡◌, chars, string_bytes, IfOk, IfSome, IsTrue};
+ghost use Rattle.std.specs.Prelude.{◌≡◌, chars, map, string_bytes, IfOk, IfSome, IsTrue};
 ghost use Rattle.fancy_lex.specs.Flags.{flags_of};
 ghost use Rattle.fancy_syntax.specs.InfoViews.{info_of};
 ghost use Rattle.fancy_syntax.specs.View.{view};
+ghost use Rattle.fancy_grammar.specs.Trivia.{comment_texts};
+ghost use Rattle.fancy_syntax.specs.TriviaViews.{trivium_of};
 ghost use Rattle.pattern_fixes.specs.Edits as spec;
 ghost use Rattle.pattern_fixes.specs.Fixed.{IsFixedText};
 ghost use Rattle.pattern_fixes.specs.KeepsMatches.{KeepsMatches};
 
+use crate::comments::has_same_comments;
 use crate::edit::{Edit, FixableReport, edit_of};
 use crate::edits::{apart, with_edit, with_edits};
 use crate::groups::has_same_groups;
@@ -15,6 +18,7 @@ use fancy_lex::flags::Flags;
 use fancy_syntax::error::Error;
 use fancy_syntax::expr::Expr;
 use fancy_syntax::tree::ExprTree;
+use fancy_syntax::trivium::Trivium;
 use std::alloc::{AllocError, Global};
 
 /// How many reports of a pattern are fixed at once.
@@ -27,22 +31,28 @@ pub struct ParsedPattern<'p, 't> {
     pub flags: u32,
     pub pattern: &'p str,
     pub tree: &'t ExprTree,
+    /// What no node of the tree has.
+    pub trivia: &'t [Trivium],
 }
 
 impl<'p> ParsedPattern<'p, '_> {
     /// Whether the text is parsed, with the same group information, to the tree of the pattern with some reports fixed.
     fn is_fixed_as(&self, text: &str) -> Result<bool, AllocError>
-        ensures fixed { IfOk result (λ b. IsTrue b → IsFixedText (flags_of self.now.flags) (chars text.now)
-            (view self.now.tree.now.expr) (info_of self.now.tree.now)) }
+        ensures fixed { IfOk result (λ b. IsTrue b → IsFixedText (flags_of self.now.flags) text.now
+            (view self.now.tree.now.expr) (info_of self.now.tree.now)
+            (comment_texts self.now.pattern.now (map trivium_of self.now.trivia.now))) }
         ensures matches { IfOk result (λ b. IsTrue b → KeepsMatches (flags_of self.now.flags) (chars text.now)
             (view self.now.tree.now.expr) (info_of self.now.tree.now)) }
     {
-        let new = match Expr::parse_tree_with_flags(self.alloc, text, self.flags) {
+        let (new, _, trivia) = match Expr::parse_tree_with_trivia(self.alloc, text, self.flags) {
             Ok(new) => new,
             Err(Error::ParseError(..)) => return Ok(false),
             Err(Error::OutOfMemory) => return Err(AllocError),
         };
         if !has_same_groups(&new, self.tree) {
+            return Ok(false);
+        }
+        if !has_same_comments(self.alloc, self.pattern, self.trivia, text, &trivia)? {
             return Ok(false);
         }
         let unicode = Flags::from_bits(self.flags).unicode;
@@ -51,8 +61,9 @@ impl<'p> ParsedPattern<'p, '_> {
 
     /// The pattern with the edits made, if that fixes reports and changes nothing else.
     fn fixed_by(&self, edits: &[Edit<'_>]) -> Result<Option<String>, AllocError>
-        ensures fixed { IfOk result (λ o. IfSome o (λ text. IsFixedText (flags_of self.now.flags) (chars (string_bytes text))
-            (view self.now.tree.now.expr) (info_of self.now.tree.now))) }
+        ensures fixed { IfOk result (λ o. IfSome o (λ text. IsFixedText (flags_of self.now.flags) (string_bytes text)
+            (view self.now.tree.now.expr) (info_of self.now.tree.now)
+            (comment_texts self.now.pattern.now (map trivium_of self.now.trivia.now)))) }
         ensures matches { IfOk result (λ o. IfSome o (λ text. KeepsMatches (flags_of self.now.flags)
             (chars (string_bytes text)) (view self.now.tree.now.expr) (info_of self.now.tree.now))) }
     {
@@ -73,7 +84,8 @@ impl<'p> ParsedPattern<'p, '_> {
         reports: &[FixableReport],
     ) -> Result<Option<Edit<'p>>, AllocError>
         ensures fixed { IfOk result (λ o. IfSome o (λ edit. IsFixedText (flags_of self.now.flags)
-            (chars (spec.with_edit self.now.pattern.now edit)) (view self.now.tree.now.expr) (info_of self.now.tree.now))) }
+            (spec.with_edit self.now.pattern.now edit) (view self.now.tree.now.expr) (info_of self.now.tree.now)
+            (comment_texts self.now.pattern.now (map trivium_of self.now.trivia.now)))) }
         ensures matches { IfOk result (λ o. IfSome o (λ edit. KeepsMatches (flags_of self.now.flags)
             (chars (spec.with_edit self.now.pattern.now edit)) (view self.now.tree.now.expr) (info_of self.now.tree.now))) }
     {
@@ -115,8 +127,9 @@ impl<'p> ParsedPattern<'p, '_> {
     /// The pattern with reports fixed, and nothing else changed; none if none of them can be fixed. Of reports that
     /// overlap the first is fixed, and no more than `MAX_FIXES` are.
     pub fn fixed(&self, reports: &[FixableReport]) -> Result<Option<String>, AllocError>
-        ensures fixed { IfOk result (λ o. IfSome o (λ text. IsFixedText (flags_of self.now.flags) (chars (string_bytes text))
-            (view self.now.tree.now.expr) (info_of self.now.tree.now))) }
+        ensures fixed { IfOk result (λ o. IfSome o (λ text. IsFixedText (flags_of self.now.flags) (string_bytes text)
+            (view self.now.tree.now.expr) (info_of self.now.tree.now)
+            (comment_texts self.now.pattern.now (map trivium_of self.now.trivia.now)))) }
         ensures matches { IfOk result (λ o. IfSome o (λ text. KeepsMatches (flags_of self.now.flags)
             (chars (string_bytes text)) (view self.now.tree.now.expr) (info_of self.now.tree.now))) }
     {

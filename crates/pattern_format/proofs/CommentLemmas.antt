@@ -8,11 +8,11 @@ use Rattle.std.specs.Cmp.Lexicographic.{pointwise}
 use Rattle.std.proofs.lemmas.Bool.{and_parts, false≢true}
 use Rattle.std.proofs.lemmas.Bool.Decides.{Decides-eqb}
 use Rattle.std.proofs.lemmas.Slice.Eq.{slice_eq-Decides}
-use Rattle.fancy_grammar.specs.Trivia.{Trivium}
+use Rattle.fancy_grammar.specs.Trivia.{Trivium, is_comment}
 use Rattle.fancy_syntax.specs.TriviaViews.{trivium_of}
 use Rattle.fancy_syntax.specs.declared.trivium.Trivium as code
 use Rattle.pattern_format.specs.declared.style.Style.{Style}
-use Rattle.pattern_format.specs.Formatted.{comments, add_comment, is_comment, is_empty, kept_text}
+use Rattle.pattern_format.specs.Formatted.{comments, add_comment, is_empty, kept_text}
 
 if_append : (b : Bool) (text : List ℕ) (xs ys : List (List ℕ)) →
     (if b then text ∷ (xs ++ ys) else (xs ++ ys)) ≡ (if b then text ∷ xs else xs) ++ ys

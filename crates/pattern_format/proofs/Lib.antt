@@ -1,2 +1,3 @@
 mod CommentLemmas
 mod ReadBackLemmas
+mod SpelledLemmas

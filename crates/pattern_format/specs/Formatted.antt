@@ -1,5 +1,5 @@
 -- What a formatted text keeps of its pattern.
-use Rattle.std.specs.Prelude.{◌≡◌, ℕ, ◌+◌, ◌-◌, ◌==◌, Bool, true, false, ◌&&◌, not, List, [], ◌∷◌, length, chars}
+use Rattle.std.specs.Prelude.{◌≡◌, ℕ, ◌+◌, ◌-◌, ◌==◌, Bool, ◌&&◌, not, List, [], ◌∷◌, length, chars}
 use Rattle.std.specs.Prelude.{codes, slice_range, nat_eq, if◌then◌else◌}
 use Rattle.std.specs.Cmp.Lexicographic.{pointwise}
 use Rattle.std.specs.Str.{trim_end}
@@ -9,8 +9,7 @@ use Rattle.fancy_grammar.specs.ParseResult.{IsTreeOf}
 use Rattle.fancy_grammar.specs.ReadAs.{unpositioned}
 use Rattle.fancy_grammar.specs.Spans.{Span}
 use Rattle.fancy_grammar.specs.Tree.{Tree}
-use Rattle.fancy_grammar.specs.Trivia.{Trivium, TriviumKind, comment, line_comment, flags, opening, closing, dropped}
-use Rattle.fancy_grammar.specs.Trivia.{IsTriviaOf}
+use Rattle.fancy_grammar.specs.Trivia.{Trivium, TriviumKind, IsTriviaOf, is_comment, is_line_comment}
 use Rattle.pattern_format.specs.declared.style.Style.{Style}
 use Rattle.pattern_format.specs.declared.style.Style.TheVariants as style
 
@@ -18,23 +17,15 @@ use Rattle.pattern_format.specs.declared.style.Style.TheVariants as style
 abbrev pub text_at : List ℕ → Span → List ℕ
 text_at pattern p = slice_range pattern p.start p.end
 
-abbrev pub is_comment : TriviumKind → Bool
-is_comment comment = true
-is_comment line_comment = true
-is_comment (flags before after) = false
-is_comment (opening around inside) = false
-is_comment closing = false
-is_comment dropped = false
-
 -- the comment without `(?#` and `)`, or without `#`
 abbrev pub inside : TriviumKind → Span → Span
-inside comment p = record { start = p.start + 3; end = p.end - 1 }
-inside _ p = record { start = p.start + 1; end = p.end }
+inside k p =
+    if is_line_comment k then record { start = p.start + 1; end = p.end }
+    else record { start = p.start + 3; end = p.end - 1 }
 
 -- what is inside the comment, without whitespace at the end if that is the end of its line
 abbrev pub trimmed : TriviumKind → List ℕ → List ℕ
-trimmed comment text = text
-trimmed _ text = trim_end text
+trimmed k text = if is_line_comment k then trim_end text else text
 
 -- what the style keeps of a comment: its text, or in the style Compact what is inside
 abbrev pub kept_text : Style → List ℕ → Trivium → List ℕ
@@ -50,7 +41,7 @@ is_empty _ text = pointwise nat_eq text (codes "(?#)")
 abbrev pub add_comment : Style → Bool → List ℕ → List (List ℕ) → List (List ℕ)
 add_comment s is_one text others = if is_one && not (is_empty s text) then text ∷ others else others
 
--- what the style keeps of the comments of a pattern that are not empty, in order
+-- what the style keeps of the comments of a pattern that are not empty, in order, those inside tokens too
 abbrev pub comments : Style → List ℕ → List Trivium → List (List ℕ)
 comments s pattern [] = []
 comments s pattern (x ∷ l) = add_comment s (is_comment x.kind) (kept_text s pattern x) (comments s pattern l)

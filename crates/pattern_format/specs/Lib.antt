@@ -1,1 +1,3 @@
 pub mod Formatted
+pub mod Spelled
+pub mod SpelledViews

@@ -50,7 +50,7 @@ impl<'p> Moved<'p> {
             }
             TokenKind::LineComment | TokenKind::Comment => self.push_comment(token, ends_line),
             TokenKind::Leaf { .. }
-            | TokenKind::Quantifier
+            | TokenKind::Quantifier { .. }
             | TokenKind::Flags { .. }
             | TokenKind::Other => self.push_other(token),
         }

@@ -1,5 +1,5 @@
-//! Blanks between tokens. Each line keeps its break and its indentation, and no blanks at its end. Other blanks become
-//! one space, but stay before a column.
+//! Blanks between tokens. Each line keeps its break and its indentation, and no blanks at its end, except at the end of a pattern that
+//! begins with blanks. Other blanks become one space, but stay before a column.
 use crate::sheet::Sheet;
 use crate::token::{Column, Token};
 use std::alloc::{AllocError, Global};
@@ -12,10 +12,17 @@ fn push_breaks(written: &mut String, lines: &str) -> Result<(), AllocError> {
     Ok(())
 }
 
+/// The shorter one of two texts.
+fn shorter<'a>(one: &'a str, other: &'a str) -> &'a str {
+    if one.len() < other.len() { one } else { other }
+}
+
 /// A text that tokens are added to.
 #[derive(Drop)]
 pub(crate) struct Writer<'p> {
     sheet: Sheet,
+    /// The blanks that its first line begins with.
+    leading: &'p str,
     /// The blanks after it.
     blanks: &'p str,
 }
@@ -25,6 +32,7 @@ impl<'p> Writer<'p> {
     pub(crate) fn new(alloc: Global) -> Result<Writer<'p>, AllocError> {
         Ok(Writer {
             sheet: Sheet::new(alloc, "")?,
+            leading: "",
             blanks: "",
         })
     }
@@ -57,6 +65,9 @@ impl<'p> Writer<'p> {
             push_breaks(&mut self.sheet.text, lines)?;
             self.push_in_line(indentation, next.column)?;
         } else {
+            if self.sheet.text.is_empty() {
+                self.leading = blanks;
+            }
             self.push_in_line(blanks, next.column)?;
         }
         Ok(&mut self.sheet.text)
@@ -65,12 +76,15 @@ impl<'p> Writer<'p> {
     /// The whole text.
     pub(crate) fn end(mut self) -> Result<String, AllocError> {
         let blanks = self.blanks;
+        let last = shorter(self.leading, blanks);
         let written = &mut self.sheet.text;
         if let Some((lines, indentation)) = blanks.rsplit_once('\n') {
             push_breaks(written, lines)?;
             written.push_str(indentation)?;
         } else if written.is_empty() || written.ends_with('\n') {
             written.push_str(blanks)?;
+        } else {
+            written.push_str(last)?;
         }
         self.sheet.end()
     }

@@ -1,7 +1,11 @@
 //! The columns that an author aligned tokens in.
+use crate::spelling::has_operator;
 use crate::tab_stops::column_after;
 use crate::token::{Column, Token, TokenKind};
 use std::alloc::{AllocError, Global};
+
+/// How many characters a comment may be beside the column that it is meant to be in.
+const MAX_SLIP: usize = 2;
 
 /// A token with blanks before it in its line.
 #[derive(Clone, Copy)]
@@ -11,6 +15,8 @@ struct Cell {
     /// Its line, from 1 on.
     line: usize,
     column: Column,
+    /// Whether the tokens of its column are aligned if one is so.
+    is_wide: bool,
     /// Whether it stays in its column, even if no other token is in it.
     is_fixed: bool,
 }
@@ -18,8 +24,13 @@ struct Cell {
 /// The cells of a pattern up to a token.
 #[derive(Drop)]
 struct Walk {
+    alloc: Global,
+    /// Whether a line ends in the pattern.
+    has_lines: bool,
     cells: Vec<Cell>,
     comments: Vec<Cell>,
+    /// The counts of quantifiers, each of which is wide if no operator has them.
+    counts: Vec<Cell>,
     line: usize,
     /// How many characters are before in the line.
     column: usize,
@@ -35,11 +46,31 @@ struct Walk {
     comment: Option<(usize, usize)>,
     /// The column of the last comment of these lines that is in another column.
     other: Option<usize>,
-    /// The first line with a token, and the last one.
+    /// The first line with a token that stays, and the last one.
     lines: Option<(usize, usize)>,
 }
 
 impl Walk {
+    /// Nothing is passed yet of a pattern over several lines, or in one.
+    fn new(alloc: Global, has_lines: bool) -> Walk {
+        Walk {
+            alloc,
+            has_lines,
+            cells: Vec::new(alloc),
+            comments: Vec::new(alloc),
+            counts: Vec::new(alloc),
+            line: 1,
+            column: 0,
+            blanks: 0,
+            first_line: 1,
+            is_line_start: true,
+            is_after_first_bar: false,
+            comment: None,
+            other: None,
+            lines: None,
+        }
+    }
+
     /// Passes blanks.
     fn pass_blanks(&mut self, text: &str) {
         let start = self.column;
@@ -86,6 +117,7 @@ impl Walk {
                 token,
                 line: self.line,
                 column,
+                is_wide: true,
                 is_fixed: true,
             })?;
         }
@@ -105,9 +137,30 @@ impl Walk {
                 token,
                 line: self.line,
                 column,
+                is_wide: self.blanks > 1,
                 is_fixed,
             })?;
         }
+        Ok(())
+    }
+
+    /// Adds a quantifier, if it has counts.
+    fn add_counts(&mut self, token: usize, text: &str) -> Result<(), AllocError> {
+        let Some(has_operator) = has_operator(self.alloc, text)? else {
+            return Ok(());
+        };
+        let column = Column {
+            start: self.column,
+            number: 0,
+            blanks: 0,
+        };
+        self.counts.push(Cell {
+            token,
+            line: self.line,
+            column,
+            is_wide: !has_operator,
+            is_fixed: false,
+        })?;
         Ok(())
     }
 
@@ -118,12 +171,17 @@ impl Walk {
             self.pass_blanks(text);
             return Ok(());
         }
-        let first = self.lines.map_or(self.line, |(first, _)| first);
-        self.lines = Some((first, self.line));
+        if !token.is_needless {
+            let first = self.lines.map_or(self.line, |(first, _)| first);
+            self.lines = Some((first, self.line));
+        }
         if let TokenKind::LineComment = token.kind {
             self.add_comment(index)?;
-        } else {
+        } else if !token.is_needless {
             self.add_cell(index)?;
+        }
+        if self.has_lines && matches!(token.kind, TokenKind::Quantifier { .. }) {
+            self.add_counts(index, text)?;
         }
         self.is_after_first_bar = self.is_line_start && text == "|";
         self.is_line_start = text.ends_with('\n');
@@ -147,7 +205,7 @@ fn count_before(cells: &[Cell], line: usize, start: usize) -> usize {
 }
 
 /// Numbers the columns of cells. Tokens of lines one after another that begin in the same column are aligned. Returns for each
-/// column whether more than one blank is before a token in it.
+/// column whether one of its cells is wide.
 fn number_columns(alloc: Global, cells: &mut Vec<Cell>) -> Result<Vec<bool>, AllocError> {
     let mut are_wide: Vec<bool> = Vec::new(alloc);
     let mut numbered: Vec<Cell> = Vec::with_capacity(alloc, cells.len())?;
@@ -171,7 +229,7 @@ fn number_columns(alloc: Global, cells: &mut Vec<Cell>) -> Result<Vec<bool>, All
             }
         };
         if let Some(is_wide) = are_wide.get_mut(cell.column.number) {
-            *is_wide = *is_wide || cell.column.blanks > 1;
+            *is_wide = *is_wide || cell.is_wide;
         }
         numbered.push(cell)?;
     }
@@ -179,7 +237,7 @@ fn number_columns(alloc: Global, cells: &mut Vec<Cell>) -> Result<Vec<bool>, All
     Ok(are_wide)
 }
 
-/// Whether the cell stays in its column. Tokens may be aligned where more than one blank is before one of them.
+/// Whether the cell stays in its column.
 fn is_aligned(cell: Cell, are_wide: &[bool]) -> bool {
     cell.is_fixed
         || are_wide
@@ -194,27 +252,58 @@ fn set_column(tokens: &mut [Token<'_>], cell: Cell) {
     }
 }
 
+/// Lets the counts stay that are in a column with some that no operator has.
+fn keep_counts(
+    alloc: Global,
+    tokens: &mut [Token<'_>],
+    counts: Vec<Cell>,
+) -> Result<(), AllocError> {
+    let mut counts = counts;
+    let are_wide = number_columns(alloc, &mut counts)?;
+    for cell in counts.iter() {
+        if is_aligned(*cell, &are_wide)
+            && let Some(token) = tokens.get_mut(cell.token)
+        {
+            token.kind = TokenKind::Quantifier { keeps_counts: true };
+        }
+    }
+    Ok(())
+}
+
+/// Whether a comment is in the column of another one, or so near it that it is meant to be there. Unless it is in it, they have not
+/// as many blanks before them. `joined` is where the column of the other one begins.
+fn is_near(column: Column, other: Column, joined: usize) -> bool {
+    column.number == other.number
+        && column.start.abs_diff(joined) <= MAX_SLIP
+        && (column.start == other.start || column.blanks != other.blanks)
+}
+
+/// Joins the columns of comments that are near each other.
+pub(crate) fn join_columns(tokens: &mut [Token<'_>]) {
+    let mut last: Option<(Column, usize)> = None;
+    for token in tokens.iter_mut() {
+        if let (TokenKind::LineComment, Some(column)) = (token.kind, token.column) {
+            let start = match last {
+                Some((other, joined)) if is_near(column, other, joined) => joined,
+                Some(_) | None => column.start,
+            };
+            last = Some((column, start));
+            token.column = Some(Column { start, ..column });
+        }
+    }
+}
+
 /// Sets the columns of the tokens of a pattern: those of comments at the ends of lines, and those that tokens are aligned in.
 pub(crate) fn set_columns(alloc: Global, tokens: &mut [Token<'_>]) -> Result<(), AllocError> {
-    let mut walk = Walk {
-        cells: Vec::new(alloc),
-        comments: Vec::new(alloc),
-        line: 1,
-        column: 0,
-        blanks: 0,
-        first_line: 1,
-        is_line_start: true,
-        is_after_first_bar: false,
-        comment: None,
-        other: None,
-        lines: None,
-    };
+    let has_lines = tokens.iter().any(|token| token.text.contains('\n'));
+    let mut walk = Walk::new(alloc, has_lines);
     for (i, token) in tokens.iter().enumerate() {
         walk.pass(i, *token)?;
     }
     let Walk {
         mut cells,
         comments,
+        counts,
         lines,
         ..
     } = walk;
@@ -230,5 +319,5 @@ pub(crate) fn set_columns(alloc: Global, tokens: &mut [Token<'_>]) -> Result<(),
     for cell in comments.iter() {
         set_column(tokens, *cell);
     }
-    Ok(())
+    keep_counts(alloc, tokens, counts)
 }

@@ -6,21 +6,8 @@ ghost use Rattle.pattern_format.specs.Formatted as spec;
 
 use crate::style::Style;
 use fancy_syntax::span::Span;
-use fancy_syntax::trivium::{Trivium, TriviumKind};
+use fancy_syntax::trivium::Trivium;
 use std::alloc::{AllocError, Global};
-
-/// Whether it is a comment.
-fn is_comment(trivium: Trivium) -> bool
-    ensures { result ≡ spec.is_comment (trivium_of trivium).kind }
-{
-    match trivium.kind {
-        TriviumKind::Comment | TriviumKind::LineComment => true,
-        TriviumKind::InlineFlags { .. }
-        | TriviumKind::Opening { .. }
-        | TriviumKind::Closing
-        | TriviumKind::Dropped => false,
-    }
-}
 
 /// Whether what the style keeps of a comment may go.
 pub(crate) fn is_empty(text: &str, style: Style) -> bool
@@ -36,20 +23,17 @@ pub(crate) fn is_empty(text: &str, style: Style) -> bool
 fn inside(comment: Trivium) -> Option<Span>
     ensures { IfSome result (λ span. span_of span ≡ spec.inside (trivium_of comment).kind (trivium_of comment).span) }
 {
-    let span = comment.span;
-    Some(match comment.kind {
-        TriviumKind::Comment => Span {
-            start: span.start.checked_add(3)?,
-            end: span.end.saturating_sub(1),
-        },
-        TriviumKind::LineComment
-        | TriviumKind::InlineFlags { .. }
-        | TriviumKind::Opening { .. }
-        | TriviumKind::Closing
-        | TriviumKind::Dropped => Span {
-            start: span.start.checked_add(1)?,
-            end: span.end,
-        },
+    let Span { start, end } = comment.span;
+    let is_line = comment.kind.is_line_comment();
+    if is_line {
+        return Some(Span {
+            start: start.checked_add(1)?,
+            end,
+        });
+    }
+    Some(Span {
+        start: start.checked_add(3)?,
+        end: end.saturating_sub(1),
     })
 }
 
@@ -57,13 +41,10 @@ fn inside(comment: Trivium) -> Option<Span>
 fn trimmed(comment: Trivium, text: &str) -> &str
     ensures { result.now ≡ spec.trimmed (trivium_of comment).kind text.now }
 {
-    match comment.kind {
-        TriviumKind::Comment => text,
-        TriviumKind::LineComment
-        | TriviumKind::InlineFlags { .. }
-        | TriviumKind::Opening { .. }
-        | TriviumKind::Closing
-        | TriviumKind::Dropped => text.trim_end(),
+    if comment.kind.is_line_comment() {
+        text.trim_end()
+    } else {
+        text
     }
 }
 
@@ -88,7 +69,7 @@ fn push_comment<'p>(
     ensures { IfOk result (λ b. IsTrue b → map (λ t. t.now) texts.new.items ≡ map (λ t. t.now) texts.old.items
         ++ spec.comments style pattern.now (trivium_of trivium ∷ [])) }
 {
-    if !is_comment(trivium) {
+    if !trivium.kind.is_comment() {
         return Ok(true);
     }
     let Some(text) = kept_text(pattern, trivium, style) else {

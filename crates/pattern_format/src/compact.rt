@@ -1,11 +1,14 @@
 //! Patterns in one line, without the layout that they have.
 use crate::all_comments::{Comment, all_comments};
 use crate::bars::with_bars_first;
+use crate::columns::join_columns;
 use crate::cut::tokens_of;
+use crate::labels::{kept_line_ends, needs_line_ends};
 use crate::read_back::reads_back;
+use crate::sheet::Sheet;
 use crate::spelling::{push_flags, push_quantifier, without_blanks};
 use crate::style::Style;
-use crate::token::{Token, TokenKind, begins_with_line_end, is_blank};
+use crate::token::{Column, Token, TokenKind, begins_with_line_end, contents, is_blank, is_letter};
 use fancy_lex::error::Error;
 use fancy_lex::flags::Flags;
 use fancy_syntax::spanned::SpannedTree;
@@ -58,7 +61,8 @@ fn after_other(before: Before, text: &str) -> Before {
 /// What is before the next token in its line, after a token that ends the line if it is blank.
 fn after_token(before: Before, token: Token<'_>) -> Before {
     match token.kind {
-        TokenKind::Leaf { .. } | TokenKind::Quantifier | TokenKind::Comment => Before::Branch,
+        TokenKind::Leaf { .. } | TokenKind::Quantifier { .. } | TokenKind::Comment =>
+            Before::Branch,
         TokenKind::Blank | TokenKind::LineComment => Before::Nothing,
         TokenKind::Flags { .. } | TokenKind::Other => after_other(before, token.text),
     }
@@ -73,14 +77,6 @@ fn unescaped(text: &str, ignores_case: bool) -> &str {
         "\\x23" if ignores_case => "#",
         _ => text,
     }
-}
-
-/// What is in a comment through the end of its line, if that can be in parentheses.
-fn contents(comment: &str) -> Option<&str> {
-    let text = comment.strip_prefix('#')?.trim_end();
-    let backslashes = text.len().saturating_sub(text.trim_end_matches('\\').len());
-    let is_closed = !text.contains(')') && backslashes.is_multiple_of(2);
-    is_closed.then_some(text)
 }
 
 /// Whether the texts would be read as one token, as those of `\1 2` and `\b {start}`.
@@ -98,20 +94,24 @@ fn needs_lines(pattern: &str, comments: &[Comment]) -> bool {
     })
 }
 
-/// A pattern that is written in one line.
+/// A pattern that is written in one line, or with the lines that comments need.
 #[derive(Drop)]
 struct Line<'p> {
     alloc: Global,
-    written: String,
+    sheet: Sheet,
     /// The last token as it is written, if it is one of a node.
     last: &'p str,
     /// Whether blanks are after it.
     has_gap: bool,
+    /// How many letters are before, without blanks between.
+    letters: usize,
     /// What is before in the line of the pattern.
     before: Before,
     loss: Loss,
-    /// Whether comments through the ends of their lines stay so, since one of them cannot be in parentheses.
-    keeps_line_comments: bool,
+    /// Whether comments through the ends of their lines stay so.
+    keeps_lines: bool,
+    /// The column of such a comment right before.
+    above: Option<Column>,
     oniguruma_mode: bool,
     pattern: &'p str,
     /// Where the next token begins in the pattern.
@@ -121,51 +121,66 @@ struct Line<'p> {
 }
 
 impl<'p> Line<'p> {
-    /// Passes blanks. A space before the end of a line needs no other escape than any space.
-    fn pass_blanks(&mut self, blanks: &str) -> Result<(), AllocError> {
+    /// Whether nothing but a bar is before in the line.
+    fn is_after_first_bar(&self) -> bool {
+        let text = self.sheet.text.as_str();
+        text == "|" || text.ends_with("\n|")
+    }
+
+    /// Passes blanks, or an empty comment, in which the line may end that is written. A space before the end of a line needs no other
+    /// escape than any space.
+    fn pass_blanks(&mut self, blanks: &str, keeps_line_end: bool) -> Result<(), AllocError> {
         self.has_gap = true;
         if blanks.contains('\n') {
             self.before = Before::Nothing;
         }
+        if keeps_line_end && !self.is_after_first_bar() {
+            self.end_line()?;
+        }
         if self.loss == Loss::Escapes && self.last == SPACE_AT_END && blanks.contains('\n') {
             for _ in 0..SPACE_AT_END.len() {
-                self.written.pop();
+                self.sheet.text.pop();
             }
-            self.written.push(' ')?;
+            self.sheet.text.push(' ')?;
             self.last = "";
         }
         Ok(())
     }
 
-    /// Writes the blank that stays between the last token and the next one.
-    fn push_gap(&mut self, next: &str) -> Result<(), AllocError> {
-        let has_gap = self.has_gap && !self.written.is_empty() && !self.written.ends_with('\n');
+    /// Writes the blank that stays between the last token and the next one, with which a word may begin.
+    fn push_gap(&mut self, next: &str, is_word: bool) -> Result<(), AllocError> {
+        let has_gap = self.has_gap
+            && !self.sheet.text.is_empty()
+            && !self.sheet.text.ends_with('\n');
+        let are_words = is_word && self.letters > 1;
+        if self.has_gap {
+            self.letters = 0;
+        }
         self.has_gap = false;
-        if has_gap && (self.loss == Loss::MoreBlanks || are_one(self.last, next)) {
-            self.written.push(' ')?;
+        if has_gap && (self.loss == Loss::MoreBlanks || are_words || are_one(self.last, next)) {
+            self.sheet.text.push(' ')?;
         }
         Ok(())
     }
 
-    /// Writes a comment through the end of its line in parentheses if all can be. Otherwise it stays with its line. One that is
-    /// empty goes.
+    /// Writes a comment through the end of its line in parentheses, or with its line. One that is empty goes.
     fn push_line_comment(&mut self, comment: &str) -> Result<(), AllocError> {
         match contents(comment) {
             Some("") => {}
-            Some(text) if !self.keeps_line_comments => {
-                self.written.push_str("(?#")?;
-                self.written.push_str(text)?;
-                self.written.push(')')?;
+            Some(text) if !self.keeps_lines => {
+                self.sheet.text.push_str("(?#")?;
+                self.sheet.text.push_str(text)?;
+                self.sheet.text.push(')')?;
             }
-            Some(_) | None => self.written.push_str(comment)?,
+            Some(_) | None => self.sheet.text.push_str(comment)?,
         }
         Ok(())
     }
 
     /// Ends the line, if something is in it.
     fn end_line(&mut self) -> Result<(), AllocError> {
-        if !self.written.is_empty() && !self.written.ends_with('\n') {
-            self.written.push('\n')?;
+        if !self.sheet.text.is_empty() && !self.sheet.text.ends_with('\n') {
+            self.sheet.text.push('\n')?;
         }
         Ok(())
     }
@@ -185,8 +200,8 @@ impl<'p> Line<'p> {
             (part, "")
         };
         let opening = without_blanks(self.alloc, opening)?;
-        self.written.push_str(opening.as_str())?;
-        self.written.push_str(name)?;
+        self.sheet.text.push_str(opening.as_str())?;
+        self.sheet.text.push_str(name)?;
         Ok(())
     }
 
@@ -196,7 +211,7 @@ impl<'p> Line<'p> {
         self.push_part(part)?;
         let is_verbose = is_line || part.ends_with(is_blank);
         if is_verbose && part.trim_end_matches(is_blank).ends_with('?') {
-            self.written.push(' ')?;
+            self.sheet.text.push(' ')?;
         }
         Ok(())
     }
@@ -204,7 +219,7 @@ impl<'p> Line<'p> {
     /// Writes a token with comments in it. Each stays, if it is not empty.
     fn push_commented(&mut self, text: &str) -> Result<(), AllocError> {
         if self.loss == Loss::MoreBlanks {
-            return Ok(self.written.push_str(text)?);
+            return Ok(self.sheet.text.push_str(text)?);
         }
         let pattern = self.pattern;
         let end = self.position.saturating_add(text.len());
@@ -218,7 +233,7 @@ impl<'p> Line<'p> {
             if *is_line {
                 self.push_line_comment(comment)?;
             } else {
-                self.written.push_str(comment)?;
+                self.sheet.text.push_str(comment)?;
             }
             position = span.end;
         }
@@ -240,7 +255,7 @@ impl<'p> Line<'p> {
             Loss::Blanks | Loss::MoreBlanks => after,
         };
         if before != after {
-            push_flags(self.alloc, &mut self.written, text, before, after)?;
+            push_flags(self.alloc, &mut self.sheet.text, text, before, after)?;
         }
         Ok(())
     }
@@ -249,9 +264,9 @@ impl<'p> Line<'p> {
     fn push_spaced(&mut self, text: &str) -> Result<(), AllocError> {
         for part in text.split_inclusive(is_blank) {
             let word = part.trim_end_matches(is_blank);
-            self.written.push_str(word)?;
-            if word.len() < part.len() && !self.written.ends_with(' ') {
-                self.written.push(' ')?;
+            self.sheet.text.push_str(word)?;
+            if word.len() < part.len() && !self.sheet.text.ends_with(' ') {
+                self.sheet.text.push(' ')?;
             }
         }
         Ok(())
@@ -263,7 +278,7 @@ impl<'p> Line<'p> {
         if self.loss == Loss::MoreBlanks {
             return self.push_spaced(text);
         }
-        let written = &mut self.written;
+        let written = &mut self.sheet.text;
         match token.kind {
             TokenKind::Flags { before, after } if is_first && text.ends_with(')') => {
                 self.push_first_flags(text, before, after)
@@ -271,7 +286,7 @@ impl<'p> Line<'p> {
             TokenKind::Flags { before, after } => {
                 push_flags(self.alloc, written, text, before, after)
             }
-            TokenKind::Quantifier => {
+            TokenKind::Quantifier { .. } => {
                 push_quantifier(self.alloc, written, text, !self.oniguruma_mode)
             }
             TokenKind::Blank
@@ -285,25 +300,48 @@ impl<'p> Line<'p> {
         }
     }
 
+    /// Writes a comment with its line, after one space or in its column. It is alone if it was, and then keeps the column of one above.
+    fn push_kept_comment(&mut self, comment: Token<'p>) -> Result<(), AllocError> {
+        if self.before == Before::Nothing {
+            self.end_line()?;
+        }
+        let is_alone = self.sheet.text.is_empty() || self.sheet.text.ends_with('\n');
+        let above = self.above;
+        let column = comment.column.filter(|column| !is_alone
+            || above.is_some_and(|above| above.is_same(*column)));
+        self.above = column;
+        match column {
+            Some(column) => self.sheet.begin(
+                Column {
+                    blanks: 1,
+                    ..column
+                },
+                "",
+            )?,
+            None if !is_alone => self.sheet.text.push(' ')?,
+            None => {}
+        }
+        self.sheet.text.push_str(comment.text)?;
+        Ok(())
+    }
+
     /// Writes a comment that is not inside a token. If its line ends after it, and a branch with its bar is before it, it is about
-    /// that branch, and comes before the bar. One that stays with its line is alone there if it was.
+    /// that branch, and comes before the bar.
     fn push_comment(&mut self, token: Token<'p>, ends_line: bool) -> Result<(), AllocError> {
         let is_after_bar = self.before == Before::BranchAndBar
             && ends_line
-            && self.written.ends_with('|');
+            && !self.keeps_lines
+            && self.sheet.text.ends_with('|');
         if is_after_bar {
-            self.written.pop();
+            self.sheet.text.pop();
         }
         if let TokenKind::Comment = token.kind {
-            self.written.push_str(token.text)?;
+            self.sheet.text.push_str(token.text)?;
         } else {
-            if self.keeps_line_comments && self.before == Before::Nothing {
-                self.end_line()?;
-            }
             self.push_line_comment(token.text)?;
         }
         if is_after_bar {
-            self.written.push('|')?;
+            self.sheet.text.push('|')?;
         }
         Ok(())
     }
@@ -320,48 +358,73 @@ impl<'p> Line<'p> {
             TokenKind::Comment | TokenKind::LineComment => self.push_comment(token, ends_line),
             TokenKind::Leaf { ignores_case } if self.loss == Loss::Escapes => {
                 self.last = unescaped(text, ignores_case);
-                Ok(self.written.push_str(self.last)?)
+                Ok(self.sheet.text.push_str(self.last)?)
             }
-            TokenKind::Leaf { .. } => Ok(self.written.push_str(text)?),
-            TokenKind::Blank | TokenKind::Flags { .. } | TokenKind::Quantifier | TokenKind::Other =>
-                {
-                    if text.contains('#') {
-                        self.push_commented(text)
-                    } else {
-                        self.push_other(token, is_first)
-                    }
+            TokenKind::Leaf { .. } => Ok(self.sheet.text.push_str(text)?),
+            TokenKind::Blank
+            | TokenKind::Flags { .. }
+            | TokenKind::Quantifier { .. }
+            | TokenKind::Other => {
+                if text.contains('#') {
+                    self.push_commented(text)
+                } else {
+                    self.push_other(token, is_first)
                 }
+            }
         }
     }
 
-    /// Writes a token, which may be the first one, or the last one of its line.
+    /// Counts the letters before the next token.
+    fn count_letters(&mut self, token: Token<'_>) {
+        match token.kind {
+            TokenKind::Leaf { .. } if is_letter(token) => {
+                self.letters = self.letters.saturating_add(1);
+            }
+            TokenKind::Blank | TokenKind::Quantifier { .. } => {}
+            TokenKind::Leaf { .. }
+            | TokenKind::LineComment
+            | TokenKind::Comment
+            | TokenKind::Flags { .. }
+            | TokenKind::Other => self.letters = 0,
+        }
+    }
+
+    /// Writes a token before others, which may be the first one. The line that is written may end in it.
     fn push(
         &mut self,
         token: Token<'p>,
+        after: &[Token<'p>],
         is_first: bool,
-        ends_line: bool,
+        keeps_line_end: bool,
     ) -> Result<(), AllocError> {
         let text = token.text;
         match token.kind {
-            TokenKind::Blank => self.pass_blanks(text),
+            TokenKind::Blank => return self.pass_blanks(text, keeps_line_end),
             TokenKind::LineComment if contents(text) == Some("") => {
-                self.has_gap = true;
-                self.before = Before::Nothing;
-                Ok(())
+                return self.pass_blanks(text, keeps_line_end);
+            }
+            TokenKind::LineComment if self.keeps_lines => {
+                self.has_gap = false;
+                self.push_kept_comment(token)?;
             }
             TokenKind::LineComment
             | TokenKind::Comment
             | TokenKind::Leaf { .. }
             | TokenKind::Flags { .. }
-            | TokenKind::Quantifier
+            | TokenKind::Quantifier { .. }
             | TokenKind::Other => {
-                self.push_gap(text)?;
+                let next = after.first().copied();
+                let is_word = is_letter(token) && next.is_some_and(is_letter);
+                self.push_gap(text, is_word)?;
+                self.above = None;
                 self.last = text;
+                let ends_line = text.ends_with('\n') || begins_with_line_end(after);
                 self.push_text(token, is_first, ends_line)?;
-                self.before = after_token(self.before, token);
-                Ok(())
             }
         }
+        self.count_letters(token);
+        self.before = after_token(self.before, token);
+        Ok(())
     }
 
     /// Passes the text of a token in the pattern, and the comments in it.
@@ -376,23 +439,27 @@ impl<'p> Line<'p> {
     }
 }
 
-/// The tokens of a pattern with these comments in one line, without those that are needless.
+/// The tokens of a pattern with these comments in one line, without those that are needless; or, if these are given, with the lines
+/// that end in some of the tokens.
 fn in_one_line(
     alloc: Global,
     pattern: &str,
     tokens: &[Token<'_>],
     comments: &[Comment],
+    line_ends: Option<&[bool]>,
     loss: Loss,
     oniguruma_mode: bool,
 ) -> Result<String, AllocError> {
     let mut line = Line {
         alloc,
-        written: String::new(alloc),
+        sheet: Sheet::new(alloc, "")?,
         last: "",
         has_gap: false,
+        letters: 0,
         before: Before::Nothing,
         loss,
-        keeps_line_comments: needs_lines(pattern, comments),
+        keeps_lines: line_ends.is_some(),
+        above: None,
         oniguruma_mode,
         pattern,
         position: 0,
@@ -401,12 +468,12 @@ fn in_one_line(
     for (i, token) in tokens.iter().enumerate() {
         if !token.is_needless || loss == Loss::MoreBlanks {
             let after = tokens.get(i.saturating_add(1)..).unwrap_or(&[]);
-            let ends_line = token.text.ends_with('\n') || begins_with_line_end(after);
-            line.push(*token, i == 0, ends_line)?;
+            let kept = line_ends.and_then(|ends| ends.get(i)).copied();
+            line.push(*token, after, i == 0, kept.unwrap_or(false))?;
         }
         line.pass(token.text);
     }
-    Ok(line.written)
+    line.sheet.end()
 }
 
 /// Whether the token is inline flags from which on whitespace is ignored.
@@ -419,7 +486,7 @@ fn sets_ignore_space(token: Token<'_>) -> bool {
         | TokenKind::LineComment
         | TokenKind::Comment
         | TokenKind::Leaf { .. }
-        | TokenKind::Quantifier
+        | TokenKind::Quantifier { .. }
         | TokenKind::Other => false,
     }
 }
@@ -437,6 +504,20 @@ fn losses(tokens: &[Token<'_>]) -> &'static [Loss] {
     }
 }
 
+/// In which of the tokens a line ends that stays, if comments have to stay with their lines; None if they need not.
+fn kept_lines(
+    alloc: Global,
+    pattern: &str,
+    tokens: &mut [Token<'_>],
+    comments: &[Comment],
+) -> Result<Option<Vec<bool>>, AllocError> {
+    if !needs_lines(pattern, comments) && !needs_line_ends(alloc, tokens)? {
+        return Ok(None);
+    }
+    join_columns(tokens);
+    Ok(Some(kept_line_ends(alloc, tokens)?))
+}
+
 /// The pattern with the least layout with which it reads back. None if it is invalid, or there is no such text.
 fn in_line_once(alloc: Global, pattern: &str, flags: u32) -> Result<Option<String>, AllocError> {
     let parsed = match SpannedTree::parse(alloc, pattern, flags) {
@@ -444,14 +525,24 @@ fn in_line_once(alloc: Global, pattern: &str, flags: u32) -> Result<Option<Strin
         Err(Error::ParseError(..)) => return Ok(None),
         Err(Error::OutOfMemory) => return Err(AllocError),
     };
-    let mut tokens = tokens_of(alloc, pattern, &parsed)?;
-    let comments = all_comments(alloc, pattern, &parsed)?;
-    if !needs_lines(pattern, &comments) {
+    let mut tokens = tokens_of(alloc, pattern, &parsed, false)?;
+    let comments = all_comments(alloc, &parsed.trivia)?;
+    let line_ends = kept_lines(alloc, pattern, &mut tokens, &comments)?;
+    if line_ends.is_none() {
         tokens = with_bars_first(alloc, &tokens)?;
     }
+    let line_ends = line_ends.as_deref();
     let oniguruma_mode = Flags::from_bits(flags).oniguruma_mode;
     for loss in losses(&tokens) {
-        let text = in_one_line(alloc, pattern, &tokens, &comments, *loss, oniguruma_mode)?;
+        let text = in_one_line(
+            alloc,
+            pattern,
+            &tokens,
+            &comments,
+            line_ends,
+            *loss,
+            oniguruma_mode,
+        )?;
         if reads_back(
             alloc,
             pattern,

@@ -2,7 +2,7 @@
 use crate::columns::set_columns;
 use crate::flag_groups::FlagGroups;
 use crate::nodes::{Node, nodes_of};
-use crate::token::{Token, TokenKind, is_blank};
+use crate::token::{Token, TokenKind, is_blank, is_layout};
 use fancy_lex::flags::Flags;
 use fancy_syntax::spanned::SpannedTree;
 use fancy_syntax::trivium::{Trivium, TriviumKind};
@@ -27,7 +27,10 @@ fn first_token(text: &str) -> (&str, TokenKind) {
     if text.starts_with(is_quantifier_start) {
         let rest = text.trim_start_matches(|c: char| !matches!(c, '(' | ')' | '|'));
         let quantifier = before(text, rest).trim_end_matches(is_blank);
-        return (quantifier, TokenKind::Quantifier);
+        let kind = TokenKind::Quantifier {
+            keeps_counts: false,
+        };
+        return (quantifier, kind);
     }
     let rest = text.trim_start_matches(|c: char| matches!(c, ')' | '|'));
     if rest.len() < text.len() {
@@ -47,6 +50,25 @@ fn is_of_line_comments(text: &str) -> bool {
     text.contains('#')
 }
 
+/// Whether the contents of a group have several lines without its parentheses.
+fn has_own_lines(contents: &[Token<'_>]) -> bool {
+    let mut lines = 0usize;
+    let mut is_first_line = true;
+    let mut is_empty_line = true;
+    for token in contents {
+        is_empty_line = is_empty_line && is_layout(*token);
+        if is_first_line && !is_empty_line {
+            return false;
+        }
+        if token.text.contains('\n') {
+            is_first_line = false;
+            lines = lines.saturating_add(!is_empty_line as usize);
+            is_empty_line = true;
+        }
+    }
+    is_empty_line && lines > 1
+}
+
 /// What inline flags are, with the flags before and after.
 fn kind_of_flags(before: Flags, after: Flags) -> TokenKind {
     if before == after {
@@ -60,6 +82,8 @@ fn kind_of_flags(before: Flags, after: Flags) -> TokenKind {
 #[derive(Drop)]
 struct Cutter<'p> {
     pattern: &'p str,
+    /// Whether its lines stay.
+    keeps_lines: bool,
     position: usize,
     tokens: Vec<Token<'p>>,
     groups: FlagGroups,
@@ -208,13 +232,21 @@ impl<'p> Cutter<'p> {
         is_needless
     }
 
-    /// Closes a group, before these nodes. Returns whether it can be left out. One over several lines that is repeated stays.
+    /// Whether the innermost group is over several lines, and stays for that: it is repeated, or around a branch with lines of its
+    /// own that stay.
+    fn stays_over_lines(&self) -> bool {
+        let Some(opening) = self.groups.opening() else {
+            return false;
+        };
+        let contents = self.tokens.get(opening.saturating_add(1)..).unwrap_or(&[]);
+        let is_branch = self.keeps_lines && self.groups.is_branch();
+        opening < self.lines_end
+            && (self.is_before_quantifier() || is_branch && has_own_lines(contents))
+    }
+
+    /// Closes a group, before these nodes. Returns whether it can be left out.
     fn close(&mut self, nodes: &[Node]) -> bool {
-        let is_long = self
-            .groups
-            .opening()
-            .is_some_and(|opening| opening < self.lines_end);
-        let is_fixed = self.separates() || is_long && self.is_before_quantifier();
+        let is_fixed = self.separates() || self.stays_over_lines();
         let Some(index) = self.groups.close(nodes.len(), is_fixed) else {
             return false;
         };
@@ -250,6 +282,7 @@ impl<'p> Cutter<'p> {
             }
             TriviumKind::Closing => (TokenKind::Other, self.close(nodes)),
             TriviumKind::Dropped => return self.push_between(text),
+            TriviumKind::InnerComment | TriviumKind::InnerLineComment => return Ok(()),
         };
         self.tokens.push(Token {
             text,
@@ -265,6 +298,10 @@ impl<'p> Cutter<'p> {
     fn push_tree(&mut self, nodes: &[Node], trivia: &[Trivium]) -> Result<(), AllocError> {
         let mut rest = nodes;
         for trivium in trivia {
+            // A comment in a token is in the text of the token.
+            if trivium.kind.is_inner() {
+                continue;
+            }
             rest = self.push_nodes(rest, trivium.span.start)?;
             self.push_trivium(*trivium, rest)?;
         }
@@ -273,15 +310,17 @@ impl<'p> Cutter<'p> {
     }
 }
 
-/// The tokens of a pattern, in the order of the text.
+/// The tokens of a pattern, whose lines stay or not, in the order of the text.
 pub(crate) fn tokens_of<'p>(
     alloc: Global,
     pattern: &'p str,
     parsed: &SpannedTree,
+    keeps_lines: bool,
 ) -> Result<Vec<Token<'p>>, AllocError> {
-    let nodes = nodes_of(alloc, pattern, parsed)?;
+    let nodes = nodes_of(alloc, parsed)?;
     let mut cutter = Cutter {
         pattern,
+        keeps_lines,
         position: 0,
         tokens: Vec::new(alloc),
         groups: FlagGroups::new(alloc),

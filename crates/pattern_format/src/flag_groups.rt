@@ -10,6 +10,8 @@ struct OpenGroup {
     /// How many nodes there are from its contents on.
     nodes: usize,
     needs_group: bool,
+    /// Whether its contents are one of several branches.
+    is_branch: bool,
     /// Whether it stays, needed or not.
     is_fixed: bool,
 }
@@ -54,6 +56,7 @@ impl FlagGroups {
             opening,
             nodes: nodes.len(),
             needs_group,
+            is_branch: nodes.first().is_some_and(|node| node.is_branch),
             is_fixed,
         })?;
         Ok(())
@@ -62,6 +65,11 @@ impl FlagGroups {
     /// The index of the opening of the innermost group.
     pub(crate) fn opening(&self) -> Option<usize> {
         self.open.last().map(|group| group.opening)
+    }
+
+    /// Whether the contents of the innermost group are one of several branches.
+    pub(crate) fn is_branch(&self) -> bool {
+        self.open.last().is_some_and(|group| group.is_branch)
     }
 
     /// All groups that are open stay, since flags are set in them.

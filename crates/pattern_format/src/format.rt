@@ -10,12 +10,11 @@ ghost use Rattle.pattern_format.specs.Formatted.{IsFormatted, ReadsBack, comment
 use crate::compact::in_line;
 use crate::cut::tokens_of;
 use crate::extent::Extent;
+use crate::kept_counts::stable_text_of;
 use crate::read_back::reads_back;
 use crate::style::Style;
 use crate::verbose::laid_out;
-use crate::written::text_of;
 use fancy_lex::error::Result;
-use fancy_lex::flags::Flags;
 use fancy_syntax::spanned::SpannedTree;
 use std::alloc::{AllocError, Global};
 
@@ -40,11 +39,10 @@ fn most_formatted(
         (view parsed.now.tree.expr) (info_of parsed.now.tree)
         (comments style pattern.now (trivia_of parsed.now.trivia)))) }
 {
-    let tokens = tokens_of(alloc, pattern, parsed)?;
-    let oniguruma_mode = Flags::from_bits(flags).oniguruma_mode;
+    let tokens = tokens_of(alloc, pattern, parsed, true)?;
     for extent in &[Extent::Whole, Extent::Spelling, Extent::Blanks] {
         let extent = *extent;
-        let text = text_of(alloc, &tokens, extent, oniguruma_mode)?;
+        let text = stable_text_of(alloc, &tokens, extent, flags)?;
         if reads_back(alloc, pattern, parsed, text.as_str(), flags, style)? {
             return Ok(Some(Formatted { text, extent }));
         }
@@ -116,10 +114,9 @@ fn first_text(
     style: Style,
 ) -> std::result::Result<Option<Formatted>, AllocError> {
     if style != Style::Compact {
-        let tokens = tokens_of(alloc, pattern, parsed)?;
-        let oniguruma_mode = Flags::from_bits(flags).oniguruma_mode;
+        let tokens = tokens_of(alloc, pattern, parsed, true)?;
         let extent = Extent::Whole;
-        let text = text_of(alloc, &tokens, extent, oniguruma_mode)?;
+        let text = stable_text_of(alloc, &tokens, extent, flags)?;
         if keeps_lines(text.as_str(), style) {
             return Ok(Some(Formatted { text, extent }));
         }
@@ -167,9 +164,10 @@ fn most_styled(
 
 /// Formats the pattern, and keeps how it is written: the text of each leaf, comments, groups that set flags, and lines
 /// with their indentation. `(?:..)`, `(?#)` and letters of flags go if they change nothing, except a group around a whole
-/// pattern of several parts. `{0,1}`, `{0,}` and `{1,}` become `?`, `*` and `+`, and `{n,n}` becomes `{n}`. Ignored
-/// whitespace goes at the end of a line, and becomes one space within a line, except before a comment through the end of the
-/// line.
+/// pattern of several parts, and one around a branch that has several lines of its own. `{0,1}`, `{0,}` and `{1,}` become `?`,
+/// `*` and `+`, unless they are in a column with other counts, and `{n,n}` becomes `{n}`. Ignored whitespace goes at the end of
+/// a line, unless a pattern begins and ends with it, and becomes one space within a line, except before a comment through the
+/// end of the line.
 ///
 /// In the style `Verbose` a pattern that does not fit in a line is laid out over several ones, and all that is in it stays too. A
 /// pattern that cannot be laid out has its own lines: one with a part where whitespace is not ignored, one that would have one line

@@ -1,7 +1,7 @@
 //! Formatting of patterns that keeps what their authors wrote, and the proof that it changes nothing else.
 #![tactic(auto)]
 
-pub mod all_comments;
+mod all_comments;
 mod bars;
 mod blanks;
 mod columns;
@@ -13,14 +13,15 @@ pub mod first_comment;
 mod flag_groups;
 pub mod format;
 mod items;
-mod kept_comments;
+mod kept_counts;
+mod labels;
 mod layout;
 mod nodes;
-mod own_part;
 mod pieces;
 mod read_back;
 mod removed;
 mod sheet;
+pub mod spelled;
 mod spelling;
 pub mod style;
 mod tab_stops;

@@ -1,5 +1,4 @@
 //! The nodes of a tree, as far as formatting needs them.
-use crate::own_part::own_part;
 use fancy_syntax::expr::{Expr, Shape, Wrap};
 use fancy_syntax::span::Span;
 use fancy_syntax::spanned::{SpannedNode, SpannedTree};
@@ -14,8 +13,8 @@ pub(crate) struct Node {
     pub(crate) ignores_case: bool,
     /// Whether a flag group around it, and around nothing else, cannot be left out.
     pub(crate) needs_group: bool,
-    /// The part in which a `#` begins no comment, except in a class.
-    pub(crate) own_part: Option<Span>,
+    /// Whether it is one of several branches.
+    pub(crate) is_branch: bool,
 }
 
 /// Whether a group around the node cannot be left out where it is repeated.
@@ -49,12 +48,17 @@ fn needs_group(node: &Expr, child: &Expr) -> bool {
     }
 }
 
+/// Whether the children of the node are branches.
+fn has_branches(node: &Expr) -> bool {
+    matches!(node, Expr::Alt(_))
+}
+
 /// Adds the node and those below it.
 fn push_nodes(
     nodes: &mut Vec<Node>,
-    pattern: &str,
     node: SpannedNode<'_>,
     needs_group_here: bool,
+    is_branch: bool,
 ) -> Result<(), AllocError> {
     let expr = node.expr();
     let is_empty = matches!(expr, Expr::Empty);
@@ -63,24 +67,25 @@ fn push_nodes(
         is_leaf: expr.is_leaf_node() && !is_empty,
         ignores_case: matches!(expr, Expr::Literal { casei: true, .. }),
         needs_group: needs_group_here || is_empty,
-        own_part: own_part(node, pattern),
+        is_branch,
     })?;
     for child in node.children() {
-        push_nodes(nodes, pattern, child, needs_group(expr, child.expr()))?;
+        push_nodes(
+            nodes,
+            child,
+            needs_group(expr, child.expr()),
+            has_branches(expr),
+        )?;
     }
     Ok(())
 }
 
 /// The nodes of the tree of a pattern in preorder. A group around the whole pattern stays if one in a repeat would, since
 /// programs put patterns together and repeat them.
-pub(crate) fn nodes_of(
-    alloc: Global,
-    pattern: &str,
-    parsed: &SpannedTree,
-) -> Result<Vec<Node>, AllocError> {
+pub(crate) fn nodes_of(alloc: Global, parsed: &SpannedTree) -> Result<Vec<Node>, AllocError> {
     let mut nodes = Vec::with_capacity(alloc, parsed.spans.len())?;
     let root = parsed.root();
     let needs_group_here = needs_group_in_repeat(root.expr());
-    push_nodes(&mut nodes, pattern, root, needs_group_here)?;
+    push_nodes(&mut nodes, root, needs_group_here, false)?;
     Ok(nodes)
 }

@@ -264,10 +264,15 @@ impl Pieces {
         Ok(true)
     }
 
-    /// Adds the token of a quantifier.
-    fn push_quantifier(&mut self, token: Token<'_>) -> Result<bool, AllocError> {
+    /// Adds the token of a quantifier, which keeps its counts or not.
+    fn push_quantifier(
+        &mut self,
+        token: Token<'_>,
+        keeps_counts: bool,
+    ) -> Result<bool, AllocError> {
         let mut text = String::new(self.alloc);
-        push_quantifier(self.alloc, &mut text, token.text, !self.oniguruma_mode)?;
+        let allows_operator = !self.oniguruma_mode && !keeps_counts;
+        push_quantifier(self.alloc, &mut text, token.text, allows_operator)?;
         self.push_owned(text, PieceKind::Quantifier)?;
         Ok(!token.text.contains('#'))
     }
@@ -349,7 +354,9 @@ impl Pieces {
                 };
                 self.push(text, kind)?;
             }
-            TokenKind::Quantifier => return self.push_quantifier(token),
+            TokenKind::Quantifier { keeps_counts } => {
+                return self.push_quantifier(token, keeps_counts);
+            }
             TokenKind::Flags { .. } => return self.push_flags(token),
             TokenKind::Other => return self.push_between(text),
         }

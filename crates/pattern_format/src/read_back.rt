@@ -7,7 +7,6 @@ ghost use Rattle.fancy_syntax.specs.View.{view};
 ghost use Rattle.pattern_format.specs.Formatted.{ReadsBack, comments};
 
 use crate::comments::has_same_comments;
-use crate::kept_comments::keeps_all_comments;
 use crate::style::Style;
 use fancy_lex::error::Error;
 use fancy_syntax::spanned::SpannedTree;
@@ -32,9 +31,6 @@ pub(crate) fn reads_back(
         Err(Error::OutOfMemory) => return Err(AllocError),
     };
     if !parsed.tree.is_same_but_for_positions(&new.tree) {
-        return Ok(false);
-    }
-    if !keeps_all_comments(alloc, pattern, parsed, text, &new, style)? {
         return Ok(false);
     }
     let is_same = has_same_comments(alloc, pattern, &parsed.trivia, text, &new.trivia, style)?;

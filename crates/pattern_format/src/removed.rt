@@ -55,7 +55,7 @@ fn has_comment(tokens: &[Token<'_>]) -> bool {
             TokenKind::Blank if token.text.contains('\n') => return false,
             TokenKind::Blank => {}
             TokenKind::Comment | TokenKind::LineComment => return true,
-            TokenKind::Quantifier
+            TokenKind::Quantifier { .. }
             | TokenKind::Flags { .. }
             | TokenKind::Leaf { .. }
             | TokenKind::Other => {
@@ -122,9 +122,7 @@ impl<'p> Kept<'p> {
             Some(other) if is_blank(*last) && !is_line_end(*last) => *other,
             Some(_) | None => *last,
         };
-        is_line_comment(above)
-            && above.column.is_some_and(|other| other.start == column.start
-                && other.number == column.number)
+        is_line_comment(above) && above.column.is_some_and(|other| other.is_same(column))
     }
 
     /// Adds a comment after blanks.

@@ -44,6 +44,18 @@ fn push_counts(
     Ok(())
 }
 
+/// The counts of a quantifier without blanks, and what is after their braces.
+fn counts_of(compact: &str) -> Option<(&str, &str)> {
+    compact.strip_prefix('{')?.split_once('}')
+}
+
+/// Whether an operator has the counts of a quantifier; None if it has no counts.
+pub(crate) fn has_operator(alloc: Global, text: &str) -> Result<Option<bool>, AllocError> {
+    let compact = without_blanks(alloc, text)?;
+    let counts = counts_of(compact.as_str());
+    Ok(counts.map(|(counts, _)| operator_of(counts).is_some()))
+}
+
 /// Writes a quantifier without blanks. Counts are written as an operator only if that is allowed.
 pub(crate) fn push_quantifier(
     alloc: Global,
@@ -52,10 +64,7 @@ pub(crate) fn push_quantifier(
     allows_operator: bool,
 ) -> Result<(), AllocError> {
     let compact = without_blanks(alloc, text)?;
-    let counts = compact
-        .strip_prefix('{')
-        .and_then(|rest| rest.split_once('}'));
-    let Some((counts, after)) = counts else {
+    let Some((counts, after)) = counts_of(compact.as_str()) else {
         return Ok(written.push_str(compact.as_str())?);
     };
     push_counts(written, counts, allows_operator)?;

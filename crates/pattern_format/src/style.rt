@@ -10,6 +10,6 @@ pub enum Style {
     /// whitespace.
     Verbose { width: usize },
     /// In one line, without ignored whitespace: a comment through the end of its line becomes `(?#..)`, and `(?x)` at the
-    /// beginning goes.
+    /// beginning goes. If a comment would be about something else so, or cannot be in parentheses, all stay with their lines.
     Compact,
 }

@@ -1,4 +1,5 @@
 //! Patterns laid out over several lines.
+use crate::columns::join_columns;
 use crate::cut::tokens_of;
 use crate::items::items_of;
 use crate::layout::Lines;
@@ -21,7 +22,7 @@ fn sets_ignore_space(token: Token<'_>) -> bool {
         | TokenKind::LineComment
         | TokenKind::Comment
         | TokenKind::Leaf { .. }
-        | TokenKind::Quantifier
+        | TokenKind::Quantifier { .. }
         | TokenKind::Other => false,
     }
 }
@@ -70,14 +71,19 @@ fn over_lines(
     Ok(is_useful.then_some(text))
 }
 
-/// The tokens of the pattern; None if it is invalid. Its tree, which is larger, is dropped.
+/// The tokens of the pattern, without columns that are near others; None if it is invalid. Its tree, which is larger, is
+/// dropped.
 fn valid_tokens(
     alloc: Global,
     pattern: &str,
     flags: u32,
 ) -> Result<Option<Vec<Token<'_>>>, AllocError> {
     match SpannedTree::parse(alloc, pattern, flags) {
-        Ok(parsed) => Ok(Some(tokens_of(alloc, pattern, &parsed)?)),
+        Ok(parsed) => {
+            let mut tokens = tokens_of(alloc, pattern, &parsed, false)?;
+            join_columns(&mut tokens);
+            Ok(Some(tokens))
+        }
         Err(Error::ParseError(..)) => Ok(None),
         Err(Error::OutOfMemory) => Err(AllocError),
     }

@@ -19,7 +19,9 @@ fn push_token(
     }
     match token.kind {
         // In Oniguruma mode `{0,1}+` repeats twice, and `?+` is possessive.
-        TokenKind::Quantifier => push_quantifier(alloc, written, token.text, !oniguruma_mode),
+        TokenKind::Quantifier { keeps_counts } => {
+            push_quantifier(alloc, written, token.text, !oniguruma_mode && !keeps_counts)
+        }
         TokenKind::Flags { before, after } => {
             push_flags(alloc, written, token.text, before, after)
         }

@@ -1,7 +1,9 @@
 //! The reports of a pattern that an edit fixes.
-ghost use Rattle.std.specs.Prelude.{◌≡◌, chars, string_bytes, IfOk, IfSome};
+ghost use Rattle.std.specs.Prelude.{◌≡◌, string_bytes, IfOk, IfSome};
 ghost use Rattle.fancy_lex.specs.Flags.{flags_of};
+ghost use Rattle.fancy_grammar.specs.Trivia.{comment_texts};
 ghost use Rattle.fancy_syntax.specs.InfoViews.{info_of};
+ghost use Rattle.fancy_syntax.specs.TriviaViews.{trivia_of};
 ghost use Rattle.fancy_syntax.specs.View.{view};
 ghost use Rattle.pattern_fixes.specs.Fixed.{IsFixedText};
 
@@ -44,7 +46,7 @@ fn fixable_reports(
     if reports
         .iter()
         .any(|one| has_hash(subject.pattern, one.span))
-        && first_comment(subject.alloc, subject.pattern, parsed)?.is_some()
+        && first_comment(subject.pattern, parsed).is_some()
     {
         reports.retain(|one| !has_hash(subject.pattern, one.span));
     }
@@ -55,12 +57,15 @@ fn fixable_reports(
 fn parsed_pattern<'p, 't>(subject: Subject<'p>, parsed: &'t SpannedTree) -> ParsedPattern<'p, 't>
     ensures flags { result.flags ≡ subject.entry.flags }
     ensures tree { result.tree.now ≡ parsed.now.tree }
+    ensures pattern { result.pattern ≡ subject.entry.pattern }
+    ensures trivia { result.trivia.now ≡ parsed.now.trivia.items }
 {
     ParsedPattern {
         alloc: subject.alloc,
         flags: subject.flags,
         pattern: subject.pattern,
         tree: &parsed.tree,
+        trivia: &parsed.trivia,
     }
 }
 
@@ -91,8 +96,9 @@ pub fn fixed(
     parsed: &SpannedTree,
     found: &[Found<'_>],
 ) -> Result<Option<String>, AllocError>
-    ensures { IfOk result (λ o. IfSome o (λ text. IsFixedText (flags_of subject.entry.flags) (chars (string_bytes text))
-        (view parsed.now.tree.expr) (info_of parsed.now.tree))) }
+    ensures { IfOk result (λ o. IfSome o (λ text. IsFixedText (flags_of subject.entry.flags) (string_bytes text)
+        (view parsed.now.tree.expr) (info_of parsed.now.tree)
+        (comment_texts subject.entry.pattern.now (trivia_of parsed.now.trivia)))) }
 {
     let reports = fixable_reports(subject, parsed, found)?;
     parsed_pattern(subject, parsed).fixed(&reports)

@@ -18,6 +18,7 @@ use json::Writer;
 use lint_rules::chosen::Chosen;
 use lint_rules::problem::{Found, NOT_SEARCHED, Problem};
 use pattern_fixes::edit::Edit;
+use patterns_listing::fact_words::FactRows;
 use patterns_text::error::RunError;
 use patterns_text::nodes::nodes_of;
 use patterns_text::position::CharacterTable;
@@ -28,6 +29,8 @@ use std::alloc::{AllocError, Global};
 #[derive(Drop)]
 pub struct JsonLines<'a> {
     pub(crate) out: &'a mut Vec<u8>,
+    /// Whether the nodes of trees have what is known of their matches.
+    pub(crate) has_facts: bool,
 }
 
 /// Writes a field that is a text, given by its characters.
@@ -179,7 +182,8 @@ impl Reporter for JsonLines<'_> {
         let nodes = nodes_of(alloc, parsed)?;
         let mut writer = begin(subject, "tree", 0)?;
         writer.key("tree")?;
-        write_node(&mut writer, &characters, parsed.root())?;
+        let mut facts = FactRows::of(subject, self.has_facts, parsed)?;
+        write_node(&mut writer, &characters, &mut facts, parsed.root())?;
         write_trivia(&mut writer, &characters, subject, &parsed.trivia)?;
         write_groups(alloc, &mut writer, &characters, &nodes, &parsed.tree)?;
         write_group_info(&mut writer, &parsed.tree)?;

@@ -78,6 +78,7 @@ impl<'a> Reports<'a> {
             }),
             ReportFormat::Json => Reports::Json(JsonLines {
                 out: &mut streams.out,
+                has_facts: look.has_facts,
             }),
             ReportFormat::Github => Reports::Github(Github {
                 out: &mut streams.out,

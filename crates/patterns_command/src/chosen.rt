@@ -2,6 +2,7 @@
 use crate::subcommands::FileVerb;
 use clap::ArgMatches;
 use clap::parser::ValueSource;
+use dialects::dialect::Dialect;
 use pattern_files::form::FileFormat;
 use pattern_files::lines::Ending;
 use pattern_files::sources::STANDARD_INPUT;
@@ -168,6 +169,7 @@ pub(crate) fn choices_of<'m>(
         },
         format: format_of(matches),
         is_verbose: matches.get_flag("verbose"),
+        dialect: matches.get_str("dialect").and_then(Dialect::named),
         levels,
     }
 }
@@ -201,6 +203,7 @@ pub(crate) fn look_of(matches: &ArgMatches<'_>) -> Look {
         },
         has_spans: matches.get_flag("spans"),
         has_each_literal: matches.get_flag("all"),
+        has_facts: matches.get_flag("facts"),
         has_classes: matches.get_flag("classes"),
         has_trivia: matches.get_flag("trivia"),
     }

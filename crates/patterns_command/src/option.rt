@@ -10,6 +10,8 @@ pub(crate) enum Takes {
     Nothing,
     /// A value.
     One(&'static str, ValueParser<'static>),
+    /// The same, and the help names the values.
+    Named(&'static str, ValueParser<'static>),
     /// A value, and the option can be given several times.
     Each(&'static str),
     /// Values with commas between, and the option can be given several times.
@@ -63,6 +65,10 @@ impl Takes {
         let arg = match self {
             Takes::Nothing => arg.action(ArgAction::SetTrue),
             Takes::One(value, parser) => arg.value_name(value).value_parser(parser),
+            Takes::Named(value, parser) => arg
+                .value_name(value)
+                .value_parser(parser)
+                .hide_possible_values(true),
             Takes::Each(value) => arg.value_name(value).action(ArgAction::Append),
             Takes::List(value) => arg
                 .value_name(value)

@@ -1,6 +1,7 @@
 //! The options of the subcommands: a row for each, in the order of the help.
 use crate::option::{FLAG, OptionRow, Takes};
 use clap::builder::ValueParser;
+use dialects::dialect::DIALECT_NAMES;
 use pattern_files::sources::STANDARD_INPUT;
 use pattern_reports::format::FORMAT_NAMES;
 
@@ -161,7 +162,7 @@ the longest beginning that names a file, so it may have colons",
 
 pub(crate) static CHECK_OPTIONS: [OptionRow; 2] = [FORMAT, JSON];
 
-pub(crate) static TREE_OPTIONS: [OptionRow; 7] = [
+pub(crate) static TREE_OPTIONS: [OptionRow; 8] = [
     FLAGS,
     OptionRow {
         id: "ascii",
@@ -194,6 +195,13 @@ of which only the first are written",
         conflicts: &["json"],
         ..FLAG
     },
+    OptionRow {
+        id: "facts",
+        help: "Draws each node in its own line, and writes after it how long its
+matches are, in characters, and in bytes where that differs, and
+whether they are at the start or the end of the text",
+        ..FLAG
+    },
     JSON,
 ];
 
@@ -215,7 +223,7 @@ box that is wider by itself stays so",
     },
 ];
 
-pub(crate) static LINT_OPTIONS: [OptionRow; 10] = [
+pub(crate) static LINT_OPTIONS: [OptionRow; 11] = [
     OptionRow {
         id: "allow",
         takes: Takes::Rules,
@@ -232,6 +240,14 @@ pub(crate) static LINT_OPTIONS: [OptionRow; 10] = [
         id: "deny",
         takes: Takes::Rules,
         help: "Makes the reports of rules errors",
+        ..FLAG
+    },
+    OptionRow {
+        id: "dialect",
+        takes: Takes::Named("NAME", ValueParser::Names(DIALECT_NAMES)),
+        help: "The dialect of the patterns: java, javascript, oniguruma, pcre, perl,
+python or ruby. Those that it reads otherwise, or that are invalid
+here, are passed over, and counted at the end",
         ..FLAG
     },
     OptionRow {
@@ -261,8 +277,7 @@ would be left",
     OptionRow {
         id: "verbose",
         short: Some('v'),
-        help: "Writes which parts of patterns are too large to be searched for
-backtracking",
+        help: "Writes which parts of patterns are not searched for backtracking",
         ..FLAG
     },
     OptionRow {
@@ -323,8 +338,8 @@ after # becomes (?#..), and (?x) at the beginning goes",
     },
     OptionRow {
         id: "canonical",
-        help: "Writes the canonical text of each pattern's tree: without ignored
-whitespace, and in one spelling",
+        help: "Writes each tree's text: without ignored whitespace, in one spelling
+except for classes and references",
         ..FLAG
     },
     OptionRow {

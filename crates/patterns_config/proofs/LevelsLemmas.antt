@@ -81,6 +81,7 @@ no_levels (option.Rules level names) other = absurd (other level names refl)
 no_levels (option.Flags flags) other = refl
 no_levels (option.Textmate is_set) other = refl
 no_levels (option.Keys keys) other = refl
+no_levels (option.Dialect dialect) other = refl
 no_levels (option.Style style) other = refl
 no_levels (option.Width width) other = refl
 no_levels (option.DropComments drops) other = refl

@@ -1,6 +1,7 @@
 -- What a configuration says of a file: of several options for one thing, the last one counts.
 use Rattle.std.specs.Prelude.{◌≡◌, ℕ, Bool, true, false, ◌||◌, ◌==◌, not, List, [], ◌∷◌, length, map, Option, Some, None, String}
 use Rattle.std.specs.declared.alloc.Global.{Global}
+use Rattle.dialects.specs.declared.dialect.Dialect.{Dialect}
 use Rattle.pattern_files.specs.declared.values.keys.Keys.{Keys}
 use Rattle.patterns_config.specs.declared.choices.FormatStyle.{FormatStyle}
 use Rattle.patterns_config.specs.declared.file_settings.FileSettings.{FileSettings}
@@ -32,6 +33,17 @@ abbrev pub keys_after : List (String Global) → List FileOption → List (Strin
 keys_after keys [] = keys
 keys_after keys (option.Keys set ∷ others) = keys_after set.items others
 keys_after keys (_ ∷ others) = keys_after keys others
+
+-- the dialect that patterns are written in after options
+abbrev pub dialect_after : Option Dialect → List FileOption → Option Dialect
+dialect_after dialect [] = dialect
+dialect_after dialect (option.Dialect set ∷ others) = dialect_after (Some set) others
+dialect_after dialect (_ ∷ others) = dialect_after dialect others
+
+-- the dialect that is chosen, or else the other one
+abbrev pub dialect_or : Option Dialect → Option Dialect → Option Dialect
+dialect_or None other = other
+dialect_or chosen _ = chosen
 
 -- how patterns are formatted after options
 abbrev pub style_after : Option FormatStyle → List FileOption → Option FormatStyle

@@ -3,6 +3,7 @@ ghost use Rattle.lint_rules.specs.Chosen.{level_of};
 ghost use Rattle.lint_rules.specs.declared.rule.Rule.{Rule};
 ghost use Rattle.patterns_config.specs.Levels.{GivesLevel};
 
+use dialects::dialect::Dialect;
 use lint_rules::chosen::{Chosen, Level};
 use lint_rules::rule::{RULES, Rule};
 use pattern_files::form::FileFormat;
@@ -109,6 +110,8 @@ pub struct Choices<'a> {
     pub format: FormatChoices,
     /// Whether they choose that what `lint` does not search is reported.
     pub is_verbose: bool,
+    /// The dialect that patterns are written in, if they choose one.
+    pub dialect: Option<Dialect>,
     /// The levels that they give to rules, in their order.
     pub levels: &'a [RuleLevel<'a>],
 }

@@ -1,8 +1,9 @@
 //! What a configuration says of the patterns of a file.
 ghost use Rattle.std.specs.Prelude.{◌≡◌, ◌++◌, ◌||◌, ◌⊎◌, [], None, false, IsTrue, IsNone, MatchOption, if◌then◌else◌, unwrap_or};
-ghost use Rattle.patterns_config.specs.FileSettings.{options_of, is_named_in, flags_after, textmate_after, keys_after, is_json, AreKeys, style_after, width_after, drops_after};
+ghost use Rattle.patterns_config.specs.FileSettings.{options_of, is_named_in, flags_after, textmate_after, keys_after, is_json, AreKeys, dialect_after, dialect_or, style_after, width_after, drops_after};
 ghost use Rattle.patterns_config.specs.declared.choices.FormatStyle.{FormatStyle};
 ghost use Rattle.patterns_config.specs.Levels.{GiveLevels, levels_of_option, levels_of_options, levels_of_names, levels_of_arguments, is_json_file};
+ghost use Rattle.dialects.specs.declared.dialect.Dialect.{Dialect};
 ghost use Rattle.lint_rules.specs.Chosen.{level_of, default_level};
 ghost use Rattle.lint_rules.specs.declared.rule.Rule.{Rule};
 
@@ -10,6 +11,7 @@ use crate::choices::{Choices, FormatStyle, RuleLevel};
 use crate::configs::FoundConfig;
 use crate::glob::PathNames;
 use crate::options::FileOption;
+use dialects::dialect::Dialect;
 use lint_rules::chosen::{Chosen, Level};
 use pattern_files::form::FileFormat;
 use pattern_files::values::keys::Keys;
@@ -115,6 +117,19 @@ impl<'a> FileSettings<'a> {
             named: &[],
             configured,
         })
+    }
+
+    /// The dialect that patterns are written in, if it is set.
+    fn dialect(&self) -> Option<Dialect>
+        ensures { result ≡ dialect_after None (options_of self.now) }
+    {
+        let mut dialect = None;
+        for option in &self.found {
+            if let FileOption::Dialect(set) = option {
+                dialect = Some(*set);
+            }
+        }
+        dialect
     }
 
     /// How patterns are formatted, if that is set.
@@ -286,10 +301,15 @@ pub fn levels_with(choices: Choices<'_>, settings: &FileSettings<'_>) -> Chosen
     ensures exact { (rule : Rule) → GiveLevels rule (levels_of_options (options_of settings.now) ++ levels_of_arguments choices.entry.levels.now)
         (default_level (is_json_file choices.entry (options_of settings.now)) rule) (level_of result.levels rule) }
     ensures verbose { result.is_verbose ≡ choices.entry.is_verbose }
+    ensures dialect { result.dialect ≡ dialect_or choices.entry.dialect (dialect_after None (options_of settings.now)) }
 {
     let mut chosen = Chosen::by_default(is_json_with(choices, settings));
     settings.set_levels(&mut chosen);
     set_arguments(&mut chosen, choices.levels);
     chosen.is_verbose = choices.is_verbose;
+    chosen.dialect = match choices.dialect {
+        Some(dialect) => Some(dialect),
+        None => settings.dialect(),
+    };
     chosen
 }

@@ -2,6 +2,7 @@
 use crate::choices::{FormatStyle, LEVELS, STYLES};
 use crate::config_error::{Problem, TableError};
 use crate::tables::{flag_of, number_of, text_of, texts_of, wrong_type};
+use dialects::dialect::{DIALECT_WORD, Dialect};
 use fancy_lex::flag_word::flags_named;
 use lint_rules::chosen::Level;
 use std::alloc::Global;
@@ -16,6 +17,8 @@ pub(crate) enum FileOption {
     Textmate(bool),
     /// The keys under which the files, which are JSON, have patterns.
     Keys(Vec<String>),
+    /// The dialect that patterns are written in.
+    Dialect(Dialect),
     /// How patterns are formatted.
     Style(FormatStyle),
     /// How many characters a line of a formatted pattern may have.
@@ -27,10 +30,11 @@ pub(crate) enum FileOption {
 }
 
 /// The keys of options, besides those of levels.
-static KEYS: [&str; 6] = [
+static KEYS: [&str; 7] = [
     "flags",
     "textmate",
     "keys",
+    "dialect",
     "style",
     "width",
     "drop-comments",
@@ -51,6 +55,11 @@ fn flags_of(alloc: Global, key: &'static str, value: &Value) -> Result<u32, Tabl
             Err(TableError::Refused(Problem::UnknownFlags(word)))
         }
     }
+}
+
+/// The dialect that a value names.
+fn dialect_of(key: &'static str, value: &Value) -> Result<Dialect, TableError> {
+    Dialect::named(text_of(key, value)?).ok_or(wrong_type(key, DIALECT_WORD))
 }
 
 /// The style that a value names.
@@ -114,6 +123,9 @@ pub(crate) fn options_of(
     }
     if let Some(value) = table.get("keys") {
         options.push(FileOption::Keys(texts_of(alloc, "keys", value)?))?;
+    }
+    if let Some(value) = table.get("dialect") {
+        options.push(FileOption::Dialect(dialect_of("dialect", value)?))?;
     }
     add_format_options(table, &mut options)?;
     for (key, level) in LEVELS.iter() {

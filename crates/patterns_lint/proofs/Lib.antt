@@ -1,2 +1,5 @@
+mod BeginningLemmas
 mod BranchLemmas
+mod EmptyLemmas
 mod NodeLemmas
+mod SilencedLemmas

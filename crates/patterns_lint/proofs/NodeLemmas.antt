@@ -1,7 +1,8 @@
 -- Nodes that are as they were read, and absent forms, by their cases.
-use Rattle.std.proofs.Common.{◌≡◌, ℕ, Bool, true, false, List, Option, rules, ◌∙◌, refl, ap, sym}
+use Rattle.std.proofs.Common.{◌≡◌, ℕ, Bool, true, false, Box, Global, List, Option, rules, ◌∙◌, refl, ap, sym}
 use Rattle.fancy_grammar.specs.Label.{AstReference}
-use Rattle.fancy_grammar.specs.Tree.{Tree, ast_node, ast_group}
+use Rattle.fancy_grammar.specs.Tree.{Tree, ast_node, ast_group, look_around}
+use Rattle.fancy_grammar.specs.declared.kinds.LookAround.{LookAround}
 use Rattle.fancy_syntax.specs.View.{view, view_absent, view_ast, absent_step, ast_step, expr_step}
 use Rattle.fancy_syntax.specs.declared.expr.Absent.{Absent, out-Absent, map-Absent, fold_out-Absent}
 use Rattle.fancy_syntax.specs.declared.expr.Absent.TheOpen.{Absent-F, AstNode-F, Expr-F}
@@ -9,6 +10,7 @@ use Rattle.fancy_syntax.specs.declared.expr.AstNode.{out-AstNode, map-AstNode, f
 use Rattle.fancy_syntax.specs.declared.expr.AstNode as ast
 use Rattle.fancy_syntax.specs.declared.expr.Expr.{Expr, AstNode, SubroutineCall, roll-Expr, out-Expr, roll-out-Expr}
 use Rattle.fancy_syntax.specs.declared.expr.Expr.{map-Expr}
+use Rattle.fancy_syntax.specs.declared.expr.Expr as node
 use Rattle.fancy_syntax.specs.declared.expr.Expr.{fold_out-Expr, the_lemmas}
 use Rattle.fancy_syntax.specs.declared.expr.Expr.TheVariants as variant
 use Rattle.patterns_lint.specs.Empty.{matches_only_empty, can_match_empty, matches_everywhere, has_group}
@@ -34,6 +36,9 @@ of_ast f b h k n position =
 pub view_AstNode : (n : ast.AstNode) (position : ℕ) → view (AstNode n position) ≡ view_ast n position
 view_AstNode n position = search (rules, the_lemmas)
 
+pub view_look_around : (b : Box Expr Global) (l : LookAround) → view (node.LookAround b l) ≡ look_around (view b.value) l
+view_look_around b l = search (rules, the_lemmas)
+
 pub ast_only_empty : (n : ast.AstNode) (p : ℕ) → matches_only_empty (view_ast n p) ≡ false
 ast_only_empty n p = of_ast matches_only_empty false (λ r q. refl) (λ name q t. refl) n p
 
@@ -49,16 +54,7 @@ ast_has_group n p = of_ast has_group false (λ r q. refl) (λ name q t. refl) n 
 pub ast_is_unresolved : (total : ℕ) (n : ast.AstNode) (p : ℕ) → is_unresolved_call total (view_ast n p) ≡ true
 ast_is_unresolved total n p = of_ast (is_unresolved_call total) true (λ r q. refl) (λ name q t. refl) n p
 
-pub ruleset node_steps = (
-  view_AstNode,
-  ast_only_empty,
-  ast_can_be_empty,
-  ast_everywhere,
-  ast_has_group,
-  ast_is_unresolved,
-)
-
--- an absent form calls nothing
+-- an absent form is no call
 absent_cases : (total : ℕ) (v : Absent-F Absent ast.AstNode Expr) → is_unresolved_call total
     (absent_step (map-Absent Absent ast.AstNode Expr Tree (ℕ → Tree) Tree view_absent view_ast view v)) ≡ false
 absent_cases total (Absent-F.Expression x y) = refl
@@ -66,23 +62,17 @@ absent_cases total (Absent-F.Repeater x) = refl
 absent_cases total (Absent-F.Stopper x) = refl
 absent_cases total Absent-F.Clear = refl
 
-absent_calls : (total : ℕ) (a : Absent) → is_unresolved_call total (view_absent a) ≡ false
+pub absent_calls : (total : ℕ) (a : Absent) → is_unresolved_call total (view_absent a) ≡ false
 absent_calls total a =
     ap (is_unresolved_call total) (fold_out-Absent Tree (ℕ → Tree) Tree absent_step ast_step expr_step a)
     ∙ absent_cases total (out-Absent a)
 
-calls_nothing : (total : ℕ) (v : Expr-F Absent ast.AstNode Expr) → ((n : _) → roll-Expr v ≡ SubroutineCall n → ⊥) →
-    ((n p : _) → roll-Expr v ≡ AstNode n p → ⊥) → is_unresolved_call total
-    (expr_step (map-Expr Absent ast.AstNode Expr Tree (ℕ → Tree) Tree view_absent view_ast view v)) ≡ false
-calls_nothing total (Expr-F.Expr::SubroutineCall n) h k = absurd (h n (variant.rolls-SubroutineCall n))
-calls_nothing total (Expr-F.AstNode n p) h k = absurd (k n p (variant.rolls-AstNode n p))
-calls_nothing total (Expr-F.Absent a) h k = absent_calls total a
-calls_nothing total v h k = refl
-
--- what is no call, and not as it was read, is no call that refers to no group
-pub not_call : (total : ℕ) (e : Expr) → ((n : _) → e ≡ SubroutineCall n → ⊥) → ((n p : _) → e ≡ AstNode n p → ⊥) →
-    is_unresolved_call total (view e) ≡ false
-not_call total e h k =
-    ap (is_unresolved_call total) (fold_out-Expr Tree (ℕ → Tree) Tree absent_step ast_step expr_step e)
-    ∙ calls_nothing total (out-Expr e) (λ n i. h n (sym (roll-out-Expr e) ∙ i))
-    (λ n p i. k n p (sym (roll-out-Expr e) ∙ i))
+pub ruleset node_steps = (
+  view_AstNode,
+  ast_only_empty,
+  ast_can_be_empty,
+  ast_everywhere,
+  ast_has_group,
+  ast_is_unresolved,
+  absent_calls,
+)

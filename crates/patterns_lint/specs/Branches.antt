@@ -10,6 +10,8 @@ use Rattle.lint_rules.specs.declared.problem.Problem.TheVariants as problem
 use Rattle.lint_rules.specs.declared.rule.Rule.TheVariants as rule
 use Rattle.fancy_grammar.specs.Tree.{Tree, any, literal, repeat}
 use Rattle.class_rules.specs.Beginnings.{pieces}
+use Rattle.pattern_matches.specs.Beginnings.{CoversStarts}
+use Rattle.pattern_matches.specs.Defined.{IsDefined}
 
 -- whether a literal matches what another one matches: it has the same text, and ignores case if the other does
 abbrev pub covers : Tree → Tree → Bool
@@ -99,3 +101,7 @@ empty_branch_problem is_first is_last = if is_first || is_last then None else So
 abbrev pub DifferInCount : Tree → Tree → Type 0
 DifferInCount (repeat t lo hi greedy) (repeat u low high is_greedy) = (t ≡ u) × ((lo == low) && (hi == high) ≡ false)
 DifferInCount _ _ = ⊥
+
+-- the earlier branch matches from each position from which the later one does, if what it matches is defined
+abbrev pub IsCovered : Bool → Tree → Tree → Type 0
+IsCovered unicode later earlier = IsDefined unicode earlier → CoversStarts unicode earlier later

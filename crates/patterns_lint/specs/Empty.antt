@@ -1,8 +1,10 @@
--- What matches the empty text, as far as the form of a tree says.
-use Rattle.std.specs.Prelude.{Bool, true, false, ◌&&◌, ◌||◌, ◌==◌, not}
+-- What matches the empty text, as far as the form of a tree says, and what that says of matches.
+use Rattle.std.specs.Prelude.{◌≡◌, ◌≢◌, ◌⊎◌, Bool, true, false, ◌&&◌, ◌||◌, ◌==◌, not}
 use Rattle.fancy_grammar.specs.Label as label
 use Rattle.fancy_grammar.specs.Label.{Leaf, Wrap, Row}
 use Rattle.fancy_grammar.specs.Tree.{Tree, leaf, over, row, Trees, no_trees, more_trees}
+use Rattle.pattern_matches.specs.Matches.{Assertions, Matches}
+use Rattle.pattern_matches.specs.Parts.{Position}
 
 -- whether a leaf matches nothing but the empty text: assertions, conditions, verbs and what else takes no character
 abbrev pub leaf_matches_only_empty : Leaf → Bool
@@ -113,3 +115,25 @@ is_empty _ = false
 abbrev pub is_useless_look_around : Tree → Bool
 is_useless_look_around (over (label.look_around l) t) = matches_everywhere t && not (has_group t) && not (is_empty t)
 is_useless_look_around _ = false
+
+-- ---- matches
+
+-- each match of the tree is empty
+abbrev pub HasOnlyEmptyMatches : Bool → Tree → Type 0
+HasOnlyEmptyMatches unicode t = (holds : Assertions) (p q : Position) → Matches unicode holds t p q → p ≡ q
+
+-- no match of the tree is empty
+abbrev pub HasNoEmptyMatch : Bool → Tree → Type 0
+HasNoEmptyMatch unicode t = (holds : Assertions) (p q : Position) → Matches unicode holds t p q → p ≢ q
+
+-- the tree matches the empty part at each position
+abbrev pub HasEachEmptyMatch : Bool → Tree → Type 0
+HasEachEmptyMatch unicode t = (holds : Assertions) (p : Position) → Matches unicode holds t p p
+
+-- the tree has no match
+abbrev pub HasNoMatch : Bool → Tree → Type 0
+HasNoMatch unicode t = (holds : Assertions) (p q : Position) → Matches unicode holds t p q → ⊥
+
+-- whether the tree matches does not depend on the position: it matches the empty part at each, or nothing
+abbrev pub IsDecided : Bool → Tree → Type 0
+IsDecided unicode t = HasEachEmptyMatch unicode t ⊎ HasNoMatch unicode t

@@ -4,3 +4,4 @@ pub mod Branches
 pub mod Targets
 pub mod Escapes
 pub mod Neighbours
+pub mod Silenced

@@ -1,8 +1,13 @@
 //! Branches that are likely mistakes.
-ghost use Rattle.std.specs.Prelude.{◌≡◌, ◌↔◌, ℕ, true, Some, chars, IsTrue, IfOk, IfSome, IsSomeAnd, slice_get};
+ghost use Rattle.std.specs.Prelude.{◌≡◌, ◌↔◌, ℕ, Bool, true, Some, chars, IsTrue, IfOk, IfSome, IsSomeAnd, slice_get};
+ghost use Rattle.fancy_lex.specs.Flags.{flags_of};
+ghost use Rattle.fancy_syntax.specs.Spanned.{spanned_of};
 ghost use Rattle.fancy_syntax.specs.View.{view, views};
+ghost use Rattle.pattern_matches.specs.Defined.{IsDefined};
 ghost use Rattle.patterns_lint.specs.Branches as spec;
+ghost use Rattle.patterns_lint.specs.Branches.{IsCovered};
 ghost use Rattle.patterns_lint.specs.Empty as empty_spec;
+ghost use Rattle.patterns_lint.specs.Empty.{HasEachEmptyMatch};
 ghost use Rattle.patterns_lint.specs.declared.branches.Following.TheVariants as following;
 ghost use Rattle.lint_rules.specs.declared.problem.Problem.TheVariants as reported;
 
@@ -23,16 +28,17 @@ use std::collections::HashMap;
 fn covers(earlier: &Expr, later: &Expr) -> bool
     ensures { result ≡ spec.covers (view earlier.now) (view later.now) }
 {
-    match (earlier, later) {
-        (
-            Expr::Literal { val, casei },
-            Expr::Literal {
-                val: other,
-                casei: is_other_casei,
-            },
-        ) => is_same_text(val.as_str(), other.as_str()) && (*casei || !*is_other_casei),
-        _ => false,
-    }
+    let Expr::Literal { val, casei } = earlier else {
+        return false;
+    };
+    let Expr::Literal {
+        val: other,
+        casei: is_other_casei,
+    } = later
+    else {
+        return false;
+    };
+    is_same_text(val.as_str(), other.as_str()) && (*casei || !*is_other_casei)
 }
 
 /// Whether the trees begin with ones that the others cover one by one.
@@ -107,12 +113,13 @@ fn texts_differ(one: &str, other: &str) -> bool
 fn is_boundary(one: &Expr, other: &Expr) -> bool
     ensures { result ≡ spec.is_boundary (view one.now) (view other.now) }
 {
-    match (one, other) {
-        (Expr::Literal { val, .. }, Expr::Literal { val: next, .. }) => {
-            texts_differ(val.as_str(), next.as_str())
-        }
-        _ => false,
-    }
+    let Expr::Literal { val, .. } = one else {
+        return false;
+    };
+    let Expr::Literal { val: next, .. } = other else {
+        return false;
+    };
+    texts_differ(val.as_str(), next.as_str())
 }
 
 /// Whether a word boundary is before the piece of this index.
@@ -169,18 +176,19 @@ fn empty_branch_problem(is_first: bool, is_last: bool) -> Option<Problem<'static
 fn differ_in_count(one: &Expr, other: &Expr) -> bool
     ensures { IsTrue result ↔ spec.DifferInCount (view one.now) (view other.now) }
 {
-    match (one, other) {
-        (
-            Expr::Repeat { child, lo, hi, .. },
-            Expr::Repeat {
-                child: operand,
-                lo: low,
-                hi: high,
-                ..
-            },
-        ) => is_equal(child, operand) && !(*lo == *low && *hi == *high),
-        _ => false,
-    }
+    let Expr::Repeat { child, lo, hi, .. } = one else {
+        return false;
+    };
+    let Expr::Repeat {
+        child: operand,
+        lo: low,
+        hi: high,
+        ..
+    } = other
+    else {
+        return false;
+    };
+    is_equal(child, operand) && !(*lo == *low && *hi == *high)
 }
 
 /// Whether a branch beside the one of this index differs from it in the count alone.
@@ -232,6 +240,24 @@ fn is_character(tree: &Expr) -> bool {
     )
 }
 
+/// Whether the later branch begins with what the earlier one matches, by their sets of characters. It is false if both are
+/// one character, which `subsumed-branch` is for.
+fn is_covered(
+    alloc: Global,
+    known: &mut KnownClasses,
+    pattern: &str,
+    later: SpannedNode<'_>,
+    earlier: SpannedNode<'_>,
+) -> Result<bool, AllocError>
+    ensures { IfOk result (λ b. IsTrue b → IsCovered (flags_of known.old.flags).unicode
+        (view (spanned_of later.entry).expr) (view (spanned_of earlier.entry).expr)) }
+{
+    if is_character(later.expr()) && is_character(earlier.expr()) {
+        return Ok(false);
+    }
+    begins_within(alloc, known, pattern, later, earlier)
+}
+
 /// Whether the text is this character.
 pub(crate) fn is_character_text(text: &str, c: char) -> bool
     ensures { result ≡ spec.is_character (spec.only_character (chars text.now)) c }
@@ -246,21 +272,20 @@ pub(crate) fn is_character_text(text: &str, c: char) -> bool
 fn is_backslash(node: &Expr) -> bool
     ensures { result ≡ spec.is_backslash (view node.now) }
 {
-    match node {
-        Expr::Literal { val, .. } => is_character_text(val.as_str(), '\\'),
-        _ => false,
-    }
+    let Expr::Literal { val, .. } = node else {
+        return false;
+    };
+    is_character_text(val.as_str(), '\\')
 }
 
 /// Whether the node matches the character, as far as it is that literal or a dot.
 fn may_be(node: &Expr, c: char) -> bool
     ensures { result ≡ spec.may_be (view node.now) c }
 {
-    match node {
-        Expr::Literal { val, .. } => is_character_text(val.as_str(), c),
-        Expr::Any { .. } => true,
-        _ => false,
+    if let Expr::Literal { val, .. } = node {
+        return is_character_text(val.as_str(), c);
     }
+    matches!(node, Expr::Any { .. })
 }
 
 /// Whether the branch is a backslash and what may be this character.
@@ -429,8 +454,10 @@ impl<'b> Earlier<'b> {
 
     /// The first branch that matches the empty text everywhere.
     fn matching_everywhere(&self, earlier: &[Expr]) -> Option<usize>
-        ensures { IfSome result (λ i. IsSomeAnd (slice_get (views earlier.now) i)
+        ensures form { IfSome result (λ i. IsSomeAnd (slice_get (views earlier.now) i)
             (λ e. empty_spec.matches_everywhere e ≡ true)) }
+        ensures matches { (unicode : Bool) → IfSome result (λ i. IsSomeAnd (slice_get (views earlier.now) i)
+            (λ e. IsDefined unicode e → HasEachEmptyMatch unicode e)) }
     {
         let i = self.everywhere?;
         let one = earlier.get(i)?;
@@ -459,8 +486,7 @@ impl<'b> Earlier<'b> {
         None
     }
 
-    /// Whether the branch begins with what the branch of this index matches, by their sets of characters. It is false
-    /// if both are one character, which `subsumed-branch` is for.
+    /// Whether the branch begins with what the branch of this index matches, by their sets of characters.
     fn is_beginning(
         &self,
         i: usize,
@@ -470,10 +496,7 @@ impl<'b> Earlier<'b> {
         let Some(earlier) = self.nodes.get(i) else {
             return Ok(false);
         };
-        if is_character(branch.expr()) && is_character(earlier.expr()) {
-            return Ok(false);
-        }
-        begins_within(
+        is_covered(
             *self.nodes.allocator(),
             known,
             self.pattern,

@@ -18,8 +18,8 @@ fn only_character(class: &str) -> Option<char>
     Some(c)
 }
 
-/// Whether the node, which has this text, is a class of one letter or digit that is written as itself. A digit after another
-/// is none: with no brackets the two would be one number.
+/// Whether the node, which has this text, is a class of one letter or digit that is written as itself, and needs no brackets.
+/// A digit after another needs them: without, the two would be one number.
 pub(crate) fn is_single_character_class(tree: &Expr, text: &str, before: &str) -> bool {
     let Expr::Delegate { .. } = tree else {
         return false;

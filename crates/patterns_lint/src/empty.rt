@@ -1,8 +1,10 @@
 //! What matches the empty text.
-ghost use Rattle.std.specs.Prelude.{◌≡◌};
+ghost use Rattle.std.specs.Prelude.{◌≡◌, Bool, IsTrue};
 ghost use Rattle.fancy_syntax.specs.Tree.{trees_of};
 ghost use Rattle.fancy_syntax.specs.View.{view, view_absent, views};
+ghost use Rattle.pattern_matches.specs.Defined.{IsDefined};
 ghost use Rattle.patterns_lint.specs.Empty as spec;
+ghost use Rattle.patterns_lint.specs.Empty.{IsDecided};
 
 use fancy_syntax::expr::{Absent, Expr};
 
@@ -215,14 +217,14 @@ fn any_matches_everywhere(trees: &[Expr]) -> bool
 /// Whether it is a look-around whose contents match everywhere. One with a capturing group may be there for the group, and
 /// one with no contents is meant: `(?!)` never matches.
 pub(crate) fn is_useless_look_around(tree: &Expr) -> bool
-    ensures { result ≡ spec.is_useless_look_around (view tree.now) }
+    ensures form { result ≡ spec.is_useless_look_around (view tree.now) }
+    ensures matches { (unicode : Bool) → IsTrue result → IsDefined unicode (view tree.now) →
+        IsDecided unicode (view tree.now) }
 {
-    match tree {
-        Expr::LookAround(child, _) => {
-            matches_everywhere(child) && !has_group(child) && !is_empty(child)
-        }
-        _ => false,
-    }
+    let Expr::LookAround(child, _) = tree else {
+        return false;
+    };
+    matches_everywhere(child) && !has_group(child) && !is_empty(child)
 }
 
 /// Whether it is the empty pattern.

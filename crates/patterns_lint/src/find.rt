@@ -3,6 +3,7 @@ use crate::branches::Following;
 use crate::captures::missing_captures;
 use crate::escapes::containing_escape;
 use crate::flags::useless_flags;
+use crate::handed_on::is_handed_on;
 use crate::known::Known;
 use crate::neighbours::Neighbour;
 use crate::references::{Ways, follow};
@@ -10,8 +11,9 @@ use crate::scan::{Around, PatternInfo, scan};
 use crate::slow::SlowParts;
 use crate::walk::Walk;
 use backtracking::attack::Attack;
-use class_rules::class_problem::{ClassFinding, ClassProblem};
+use class_rules::class_problem::{ClassFinding, ClassLook, ClassProblem};
 use class_rules::class_walk::class_findings;
+use dialects::dialect::Dialect;
 use dialects::spelling::{DifferentSpelling, spellings};
 use fancy_syntax::spanned::{SpannedNode, SpannedTree};
 use lint_rules::attack_text::AttackText;
@@ -45,6 +47,28 @@ fn of_class<'a>(finding: ClassFinding, pattern: &str, nodes: &[SpannedNode<'_>])
     found
 }
 
+/// What is wrong with a class whose backslashes are doubled.
+static DOUBLED: ClassProblem = ClassProblem::SuspiciousClass(ClassLook::DoubledBackslashes);
+
+/// Adds what is wrong with classes and with branches of one character; of classes whose backslashes are doubled the first.
+fn add_of_classes(
+    found: &mut Vec<Found<'_>>,
+    findings: &[ClassFinding],
+    pattern: &str,
+    nodes: &[SpannedNode<'_>],
+) -> Result<(), AllocError> {
+    let mut has_doubled = false;
+    for finding in findings {
+        let is_doubled = finding.problem == DOUBLED;
+        if is_doubled && has_doubled {
+            continue;
+        }
+        has_doubled = has_doubled || is_doubled;
+        found.push(of_class(*finding, pattern, nodes))?;
+    }
+    Ok(())
+}
+
 /// Adds what other dialects read otherwise.
 fn add_differences(
     found: &mut Vec<Found<'_>>,
@@ -61,23 +85,31 @@ fn add_differences(
     Ok(())
 }
 
-/// The text on which an engine tries all ways, with this word repeated.
-fn attack_text<'a>(word: &'a [char], attack: &'a Attack) -> AttackText<'a> {
+/// The text on which an engine tries all ways, with this word repeated. `is_handed_on` says whether fancy-regex hands the
+/// part on.
+fn attack_text<'a>(word: &'a [char], attack: &'a Attack, is_handed_on: bool) -> AttackText<'a> {
     AttackText {
         before: attack.before.as_deref(),
         word,
         after: &attack.after,
+        is_handed_on,
     }
 }
 
-/// Reports what is slow.
-fn report_slow<'a>(slow: &'a SlowParts, walk: &mut Walk<'a>) -> Result<(), AllocError> {
+/// Reports what is slow in the pattern that has these nodes, in preorder.
+fn report_slow<'a>(
+    slow: &'a SlowParts,
+    nodes: &[SpannedNode<'_>],
+    walk: &mut Walk<'a>,
+) -> Result<(), AllocError> {
     for repeat in &slow.repeats {
-        let text = attack_text(&repeat.witness.word, &repeat.attack);
+        let handed_on = is_handed_on(nodes, repeat.span);
+        let text = attack_text(&repeat.witness.word, &repeat.attack, handed_on);
         walk.report(repeat.span, Problem::ExponentialBacktracking { text })?;
     }
     for sequence in &slow.sequences {
-        let text = attack_text(&sequence.witness.word, &sequence.attack);
+        let handed_on = is_handed_on(nodes, sequence.span);
+        let text = attack_text(&sequence.witness.word, &sequence.attack, handed_on);
         let degree = sequence.degree;
         walk.report(
             sequence.span,
@@ -115,17 +147,16 @@ fn problems<'a>(
     };
     let mut walk = Walk::new(alloc);
     scan(parsed.root(), &mut walk, about, ROOT, &mut known.classes)?;
-    report_slow(slow, &mut walk)?;
+    let nodes = nodes_of(alloc, parsed)?;
+    report_slow(slow, &nodes, &mut walk)?;
     let mut ways = Ways::new(alloc, tree)?;
     follow(parsed.root(), &mut ways)?;
     ways.add_groups();
     ways.report_unused()?;
     let mut found = walk.found;
     found.extend_from_slice(&ways.walk.found)?;
-    let nodes = nodes_of(alloc, parsed)?;
-    for finding in class_findings(alloc, parsed.root(), pattern, &mut known.classes)? {
-        found.push(of_class(finding, pattern, &nodes))?;
-    }
+    let findings = class_findings(alloc, parsed.root(), pattern, &mut known.classes)?;
+    add_of_classes(&mut found, &findings, pattern, &nodes)?;
     found.extend_from_slice(&useless_flags(alloc, pattern, &parsed.trivia)?)?;
     add_differences(&mut found, &spellings(alloc, pattern, &nodes)?)?;
     if let Some(rule) = grammar {
@@ -139,7 +170,31 @@ fn problems<'a>(
     Ok(found)
 }
 
-/// The same of the rules that are not silent.
+/// Whether the dialect reads otherwise what is reported.
+fn is_read_otherwise(found: &Found<'_>, pattern: &str, dialect: Dialect) -> bool {
+    if let Problem::DialectDifference { difference } = found.problem {
+        return difference.is_of(dialect);
+    }
+    found.is_octal(pattern)
+}
+
+/// Leaves the reports that hold in the dialect, and returns whether it reads the pattern otherwise: then only those that say
+/// so are left.
+fn keep_in_dialect(found: &mut Vec<Found<'_>>, pattern: &str, dialect: Dialect) -> bool {
+    let is_other = found
+        .iter()
+        .any(|one| is_read_otherwise(one, pattern, dialect));
+    found.retain(|one| {
+        if let Problem::DialectDifference { difference } = one.problem {
+            difference.is_of(dialect)
+        } else {
+            !is_other
+        }
+    });
+    is_other
+}
+
+/// The same of the rules that are not silent. None if the dialect of the pattern reads it otherwise, and no report says so.
 pub fn reported<'a>(
     subject: Subject<'_>,
     parsed: &'a SpannedTree,
@@ -147,8 +202,15 @@ pub fn reported<'a>(
     chosen: &Chosen,
     known: &mut Known,
     slow: &'a SlowParts,
-) -> Result<Vec<Found<'a>>, AllocError> {
+) -> Result<Option<Vec<Found<'a>>>, AllocError> {
     let mut found = problems(subject, parsed, grammar, known, slow)?;
+    let is_other = match chosen.dialect {
+        Some(dialect) => keep_in_dialect(&mut found, subject.pattern, dialect),
+        None => false,
+    };
     found.retain(|one| chosen.level(one.problem.rule()) != Level::Allow);
-    Ok(found)
+    if is_other && found.is_empty() {
+        return Ok(None);
+    }
+    Ok(Some(found))
 }

@@ -17,7 +17,9 @@ fn flags_before(kind: TriviumKind) -> Option<Flags> {
         TriviumKind::Comment
         | TriviumKind::LineComment
         | TriviumKind::Closing
-        | TriviumKind::Dropped => None,
+        | TriviumKind::Dropped
+        | TriviumKind::InnerComment
+        | TriviumKind::InnerLineComment => None,
     }
 }
 

@@ -1,6 +1,10 @@
 //! Quantifiers that are likely mistakes.
-ghost use Rattle.std.specs.Prelude.{◌≡◌};
+ghost use Rattle.std.specs.Prelude.{◌≡◌, ℕ, Bool, false, Some, None};
+ghost use Rattle.fancy_grammar.specs.Tree.{Tree, repeat};
 ghost use Rattle.fancy_syntax.specs.View.{view};
+ghost use Rattle.lint_rules.specs.declared.rule.Rule.TheVariants as rule;
+ghost use Rattle.pattern_matches.specs.Defined.{IsDefined};
+ghost use Rattle.patterns_lint.specs.Empty.{HasNoEmptyMatch, HasOnlyEmptyMatches};
 ghost use Rattle.patterns_lint.specs.Quantifiers as spec;
 
 use crate::empty::{can_match_empty, has_group, matches_only_empty};
@@ -25,12 +29,10 @@ pub(crate) struct Surroundings {
 fn is_quantified_assertion(tree: &Expr) -> bool
     ensures { result ≡ spec.is_quantified_assertion (view tree.now) }
 {
-    match tree {
-        Expr::Repeat { child, hi, .. } => {
-            matches_only_empty(child) && !(*hi == 1 && has_group(child))
-        }
-        _ => false,
-    }
+    let Expr::Repeat { child, hi, .. } = tree else {
+        return false;
+    };
+    matches_only_empty(child) && !(*hi == 1 && has_group(child))
 }
 
 /// Whether it repeats without a limit what can match the empty text, and more. A possessive one is no such case: it tries
@@ -38,67 +40,66 @@ fn is_quantified_assertion(tree: &Expr) -> bool
 fn is_empty_loop(tree: &Expr, around: Surroundings) -> bool
     ensures { result ≡ spec.is_empty_loop around (view tree.now) }
 {
-    match tree {
-        Expr::Repeat { child, hi, .. } => {
-            *hi == usize::MAX
-                && can_match_empty(child)
-                && !matches_only_empty(child)
-                && !around.is_atomic
-        }
-        _ => false,
-    }
+    let Expr::Repeat { child, hi, .. } = tree else {
+        return false;
+    };
+    *hi == usize::MAX && can_match_empty(child) && !matches_only_empty(child) && !around.is_atomic
 }
 
 /// Whether it is lazy, and nothing follows it, so that it repeats only its minimum.
 fn is_lazy_at_end(tree: &Expr, around: Surroundings) -> bool
     ensures { result ≡ spec.is_lazy_at_end around (view tree.now) }
 {
-    match tree {
-        Expr::Repeat { lo, hi, greedy, .. } => {
-            !*greedy && *lo < *hi && around.is_at_end && !around.has_calls
-        }
-        _ => false,
-    }
+    let Expr::Repeat { lo, hi, greedy, .. } = tree else {
+        return false;
+    };
+    !*greedy && *lo < *hi && around.is_at_end && !around.has_calls
 }
 
 /// Whether its minimum is above its maximum.
 fn is_invalid_quantifier(tree: &Expr) -> bool
     ensures { result ≡ spec.is_invalid_quantifier (view tree.now) }
 {
-    match tree {
-        Expr::Repeat { lo, hi, .. } => *hi < *lo,
-        _ => false,
-    }
+    let Expr::Repeat { lo, hi, .. } = tree else {
+        return false;
+    };
+    *hi < *lo
 }
 
 /// Whether it repeats exactly once. Where a branch beside it differs from it in the count alone, it is no mistake.
 fn is_useless_quantifier(tree: &Expr, around: Surroundings) -> bool
     ensures { result ≡ spec.is_useless_quantifier around (view tree.now) }
 {
-    match tree {
-        Expr::Repeat { lo: 1, hi: 1, .. } => !around.has_count_twin,
-        _ => false,
-    }
+    let Expr::Repeat { lo: 1, hi: 1, .. } = tree else {
+        return false;
+    };
+    !around.has_count_twin
 }
 
 /// Whether it repeats zero times. Where there are calls, one on a group is none: it may define the group for them.
 fn is_zero_quantifier(tree: &Expr, around: Surroundings) -> bool
     ensures { result ≡ spec.is_zero_quantifier around (view tree.now) }
 {
-    match tree {
-        Expr::Repeat {
-            child,
-            lo: 0,
-            hi: 0,
-            ..
-        } => !(around.has_calls && has_group(child)),
-        _ => false,
-    }
+    let Expr::Repeat {
+        child,
+        lo: 0,
+        hi: 0,
+        ..
+    } = tree
+    else {
+        return false;
+    };
+    !(around.has_calls && has_group(child))
 }
 
 /// The rule that reports the node's quantifier.
 pub(crate) fn quantifier_rule(tree: &Expr, around: Surroundings) -> Option<Rule>
-    ensures { result ≡ spec.quantifier_rule around (view tree.now) }
+    ensures form { result ≡ spec.quantifier_rule around (view tree.now) }
+    ensures assertion { (unicode : Bool) → result ≡ Some rule.QuantifiedAssertion → IsDefined unicode (view tree.now) →
+        HasOnlyEmptyMatches unicode (view tree.now) }
+    ensures no_loop { (unicode : Bool) (t : Tree) (lo : ℕ) (greedy : Bool) → result ≡ None →
+        view tree.now ≡ repeat t lo spec.no_limit greedy → around.is_atomic ≡ false → IsDefined unicode t →
+        HasNoEmptyMatch unicode t }
 {
     if is_invalid_quantifier(tree) {
         Some(Rule::InvalidQuantifier)

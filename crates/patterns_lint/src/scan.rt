@@ -241,36 +241,38 @@ fn look_at<'a>(
 
 /// The pieces of a concatenation; none of another node.
 fn pieces_of(tree: &Expr) -> &[Expr] {
-    match tree {
-        Expr::Concat(pieces) => pieces,
-        _ => &[],
-    }
+    let Expr::Concat(pieces) = tree else {
+        return &[];
+    };
+    pieces
 }
 
 /// The character that the piece of this index is.
 fn character_at(pieces: &[Expr], index: usize) -> Option<char> {
-    match pieces.get(index)? {
-        Expr::Literal { val, .. } => only_character(val.as_str()),
-        _ => None,
-    }
+    let Expr::Literal { val, .. } = pieces.get(index)? else {
+        return None;
+    };
+    only_character(val.as_str())
 }
 
 /// The character after the child of this index; after all of a group that after the group.
 fn next_to_child(tree: &Expr, index: usize, around: Around) -> Option<char> {
-    match tree {
-        Expr::Concat(pieces) => character_at(pieces, index.saturating_add(1)),
-        Expr::Group(_) => around.next,
-        _ => None,
+    if let Expr::Group(_) = tree {
+        around.next
+    } else {
+        character_at(pieces_of(tree), index.saturating_add(1))
     }
 }
 
 /// The character that follows the loop that the child of the tree is all of.
 fn delimiter_of_child(tree: &Expr, around: Around) -> Option<char> {
-    match tree {
-        Expr::Repeat { hi, .. } if *hi > 1 => around.next,
-        Expr::Group(_) => around.delimiter,
-        _ => None,
+    if let Expr::Group(_) = tree {
+        return around.delimiter;
     }
+    let Expr::Repeat { hi, .. } = tree else {
+        return None;
+    };
+    if *hi > 1 { around.next } else { None }
 }
 
 /// What is known of the child of this index.

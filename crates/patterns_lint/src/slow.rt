@@ -15,8 +15,8 @@ pub struct SlowParts {
     pub repeats: Vec<SlowRepeat>,
     /// The pairs of repeats that can match a text in polynomially many ways.
     pub sequences: Vec<SlowSequence>,
-    /// The repeats and pairs that were not looked at, since they are too large.
-    pub too_large: Vec<Span>,
+    /// The repeats and pairs that were not searched.
+    pub not_searched: Vec<Span>,
 }
 
 impl SlowParts {
@@ -25,7 +25,7 @@ impl SlowParts {
         SlowParts {
             repeats: Vec::new(alloc),
             sequences: Vec::new(alloc),
-            too_large: Vec::new(alloc),
+            not_searched: Vec::new(alloc),
         }
     }
 
@@ -39,14 +39,18 @@ impl SlowParts {
     ) -> Result<SlowParts, AllocError> {
         let mut parts = SlowParts::new(alloc);
         if chosen.level(Rule::ExponentialBacktracking) != Level::Allow {
-            let SlowRepeats { slow, too_large } = slow_repeats(alloc, parsed, &mut known.sets)?;
+            let SlowRepeats { slow, not_searched } = slow_repeats(alloc, parsed, &mut known.sets)?;
             parts.repeats = slow;
-            parts.too_large = too_large;
+            parts.not_searched = not_searched;
         }
         if chosen.level(Rule::PolynomialBacktracking) != Level::Allow {
-            let SlowSequences { slow, too_large } = slow_sequences(alloc, parsed, &mut known.sets)?;
+            let SlowSequences { slow, not_searched } = slow_sequences(
+                alloc,
+                parsed,
+                &mut known.sets,
+            )?;
             parts.sequences = slow;
-            parts.too_large.extend_from_slice(&too_large)?;
+            parts.not_searched.extend_from_slice(&not_searched)?;
         }
         Ok(parts)
     }

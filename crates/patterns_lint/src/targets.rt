@@ -20,10 +20,12 @@ pub(crate) fn above(total: usize, group: usize) -> Option<usize>
 pub(crate) fn missing_group(tree: &Expr, total: usize) -> Option<usize>
     ensures { result ≡ spec.missing_group total (view tree.now) }
 {
-    match tree {
-        Expr::Backref { group, .. } => above(total, *group),
-        Expr::BackrefWithRelativeRecursionLevel { group, .. } => above(total, *group),
-        _ => None,
+    if let Expr::Backref { group, .. }
+    | Expr::BackrefWithRelativeRecursionLevel { group, .. } = tree
+    {
+        above(total, *group)
+    } else {
+        None
     }
 }
 
@@ -31,10 +33,10 @@ pub(crate) fn missing_group(tree: &Expr, total: usize) -> Option<usize>
 pub(crate) fn missing_condition_group(tree: &Expr, total: usize) -> Option<usize>
     ensures { result ≡ spec.missing_condition_group total (view tree.now) }
 {
-    match tree {
-        Expr::BackrefExistsCondition { group, .. } => above(total, *group),
-        _ => None,
-    }
+    let Expr::BackrefExistsCondition { group, .. } = tree else {
+        return None;
+    };
+    above(total, *group)
 }
 
 /// Whether the text of a call has the group's number: not its name, and not how many groups it is away.
@@ -47,11 +49,8 @@ fn is_call_by_number(text: &str) -> bool {
 /// Whether the node, which has this text, refers to a group by a number: a call, or a back reference that is a backslash
 /// and digits.
 pub(crate) fn is_numbered_reference(tree: &Expr, text: &str) -> bool {
-    match tree {
-        Expr::Backref { .. } => is_of_digits(text),
-        Expr::SubroutineCall(_) => is_call_by_number(text),
-        _ => false,
-    }
+    (matches!(tree, Expr::Backref { .. }) && is_of_digits(text))
+        || (matches!(tree, Expr::SubroutineCall(_)) && is_call_by_number(text))
 }
 
 /// The group of the back reference, which has this text, if it is a backslash and digits, and `begin` has fewer groups.
@@ -73,6 +72,27 @@ pub(crate) fn is_unresolved_call(tree: &Expr, total: usize) -> bool
     match tree {
         Expr::SubroutineCall(group) => total < *group,
         Expr::AstNode(..) => true,
-        _ => false,
+        Expr::Empty
+        | Expr::Any { .. }
+        | Expr::Assertion(_)
+        | Expr::GeneralNewline { .. }
+        | Expr::Literal { .. }
+        | Expr::LiteralBytes { .. }
+        | Expr::Concat(_)
+        | Expr::Alt(_)
+        | Expr::Group(_)
+        | Expr::LookAround(..)
+        | Expr::Repeat { .. }
+        | Expr::Delegate { .. }
+        | Expr::Backref { .. }
+        | Expr::BackrefWithRelativeRecursionLevel { .. }
+        | Expr::AtomicGroup(_)
+        | Expr::KeepOut
+        | Expr::ContinueFromPreviousMatchEnd
+        | Expr::BackrefExistsCondition { .. }
+        | Expr::Conditional { .. }
+        | Expr::BacktrackingControlVerb(_)
+        | Expr::DefineGroup { .. }
+        | Expr::Absent(_) => false,
     }
 }

@@ -1,5 +1,6 @@
 //! A pattern's tree, drawn with branches.
 use crate::class_words::ClassWords;
+use crate::fact_words::{FactRows, FactWords};
 use crate::trivia::write_trivia;
 use class_meaning::characters_of;
 use fancy_lex::flags::Flags;
@@ -34,10 +35,19 @@ pub struct Look {
     pub has_spans: bool,
     /// Whether each literal has a line of its own. Otherwise adjacent literals of a concatenation have one together.
     pub has_each_literal: bool,
+    /// Whether what is known of each node's matches is written after it. Each literal then has a line of its own.
+    pub has_facts: bool,
     /// Whether what a class contains is written after it.
     pub has_classes: bool,
     /// Whether what no node has is listed after the tree.
     pub has_trivia: bool,
+}
+
+impl Look {
+    /// Whether adjacent literals of a concatenation have one line.
+    fn has_runs(self) -> bool {
+        !self.has_each_literal && !self.has_facts
+    }
 }
 
 /// What is before a node: for each level from the first whether the node that it runs through is the last there.
@@ -132,6 +142,7 @@ struct Drawing<'a> {
     pattern: &'a str,
     names: Names<'a>,
     columns: ColumnTable,
+    facts: FactRows,
     /// How many groups are drawn.
     groups: usize,
     lasts: Vec<bool>,
@@ -162,6 +173,14 @@ impl Drawing<'_> {
             write!(out, ": {}", ClassWords(&meaning))?;
         }
         Ok(())
+    }
+
+    /// Writes what is known of the matches of the next node, if that is written.
+    fn write_facts(&mut self, out: &mut Vec<u8>) -> io::Result<()> {
+        match self.facts.take() {
+            Some(facts) => write!(out, " ({})", FactWords(facts)),
+            None => Ok(()),
+        }
     }
 
     /// Writes the span and the text there, if spans are written, and ends the line.
@@ -199,6 +218,7 @@ impl Drawing<'_> {
         self.begin_line(out, role)?;
         self.write_label(out, node.expr())?;
         self.write_class(out, node.expr())?;
+        self.write_facts(out)?;
         self.end_line(out, node.span())?;
         Ok(())
     }
@@ -242,7 +262,7 @@ impl Drawing<'_> {
             (parent, child.expr()),
             (Expr::Concat(_), Expr::Literal { .. })
         );
-        if !is_of_run || self.look.has_each_literal {
+        if !is_of_run || !self.look.has_runs() {
             return Ok(false);
         }
         self.run.add(child.expr(), child.span())?;
@@ -256,7 +276,7 @@ impl Drawing<'_> {
         role: &str,
         node: SpannedNode<'_>,
     ) -> Result<bool, RunError> {
-        if self.look.has_each_literal || !is_run(node.expr()) {
+        if !self.look.has_runs() || !is_run(node.expr()) {
             return Ok(false);
         }
         for literal in node.children() {
@@ -321,6 +341,7 @@ pub fn write_tree(
         pattern,
         names: Names::of(alloc, &parsed.tree)?,
         columns: ColumnTable::of(alloc, pattern, &nodes)?,
+        facts: FactRows::of(subject, look.has_facts, parsed)?,
         groups: 0,
         lasts: Vec::new(alloc),
         run: LiteralRun {

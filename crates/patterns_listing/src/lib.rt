@@ -4,5 +4,6 @@
 
 pub mod class_words;
 pub mod drawing;
+pub mod fact_words;
 pub mod listing;
 mod trivia;

@@ -16,6 +16,10 @@ impl fmt::Display for KindWords {
             TriviumKind::LineComment => return f.write_str("comment to the end of the line"),
             TriviumKind::Closing => return f.write_str("closing parenthesis"),
             TriviumKind::Dropped => return f.write_str("without effect"),
+            TriviumKind::InnerComment => return f.write_str("comment in a token"),
+            TriviumKind::InnerLineComment => {
+                return f.write_str("comment to the end of the line, in a token");
+            }
             TriviumKind::InlineFlags { before, after } => ("flags", "flags", before, after),
             TriviumKind::Opening { around, inside } => {
                 ("opening", "opening, flags", around, inside)

@@ -100,6 +100,7 @@ fn write_drawn_tree<O: Write>(
         style: Style::Lines,
         has_spans: false,
         has_each_literal: false,
+        has_facts: false,
         has_classes: false,
         has_trivia: false,
     };

@@ -1,5 +1,5 @@
 //! The command `lint`: likely mistakes in patterns that are accepted.
-ghost use Rattle.std.specs.Prelude.{◌≡◌, ◌⊎◌, Ok, Contains};
+ghost use Rattle.std.specs.Prelude.{◌≡◌, ◌⊎◌, Ok, IfOk, OnSome, IfNone, IsSome, Contains};
 ghost use Rattle.std.specs.Bool.{OnTrue};
 ghost use Rattle.lint_rules.specs.declared.chosen.Level.{Level};
 ghost use Rattle.patterns_program.specs.declared.outcome.Outcome.{Outcome};
@@ -9,6 +9,8 @@ ghost use Rattle.patterns_text.specs.Subject.{IsAccepted, IsRefused};
 use crate::outcome::Outcome;
 use crate::rewriting::Rewriting;
 use crate::tally::Tally;
+use dialects::dialect::Dialect;
+use fancy_syntax::spanned::SpannedTree;
 use lint_rules::chosen::{Chosen, Level};
 use lint_rules::problem::Found;
 use pattern_reports::fixes::{MAX_ROUNDS, fixed};
@@ -16,6 +18,7 @@ use pattern_reports::reporter::{Reporter, parse};
 use pattern_reports::reports::Reports;
 use patterns_lint::find::reported;
 use patterns_lint::known::Known;
+use patterns_lint::silenced::levels_in;
 use patterns_lint::slow::SlowParts;
 use patterns_text::error::RunError;
 use patterns_text::grammar_rule::GrammarRule;
@@ -45,8 +48,36 @@ fn count_denied(found: &[Found<'_>], chosen: &Chosen, tally: &mut Tally) -> bool
     is_denied
 }
 
+/// Parses the pattern. What is invalid is reported, if no other dialect is named.
+fn parse_in(
+    subject: Subject<'_>,
+    dialect: Option<Dialect>,
+    reports: &mut Reports<'_>,
+) -> Result<Option<SpannedTree>, RunError>
+    ensures read { IfOk result (λ parsed. OnSome parsed (IsAccepted subject.entry)) }
+    ensures refused { IfOk result (λ parsed. IfNone parsed (IsRefused subject.entry)) }
+{
+    if dialect.is_none() {
+        return parse(subject, reports);
+    }
+    Ok(subject.parse()?.ok())
+}
+
+/// What a pattern is that is invalid: refused, or passed over if another dialect is named, which is counted.
+fn not_parsed(dialect: Option<Dialect>, tally: &mut Tally) -> Outcome
+    ensures good { result ≡ Outcome.Good → IsSome dialect }
+    ensures read { result ≡ Outcome.Unread → ⊥ }
+{
+    if dialect.is_none() {
+        return Outcome::Refused;
+    }
+    tally.pass_over();
+    Outcome::Good
+}
+
 /// Reports the likely mistakes in the pattern, or its error if it is invalid; or returns the pattern with reports fixed, in
-/// one record. `known` has the classes of the run's patterns.
+/// one record. A pattern is passed over, which is counted, if a dialect is named that reads it otherwise, or if it is invalid
+/// and a dialect is named. `known` has the classes of the run's patterns.
 pub(crate) fn lint(
     subject: Subject<'_>,
     request: LintRequest<'_>,
@@ -54,7 +85,7 @@ pub(crate) fn lint(
     known: &mut Known,
     tally: &mut Tally,
 ) -> Result<Rewriting, RunError>
-    ensures good { result ≡ Ok (Stays Outcome.Good) → IsAccepted subject.entry }
+    ensures good { result ≡ Ok (Stays Outcome.Good) → IsAccepted subject.entry ⊎ IsSome request.entry.chosen.now.dialect }
     ensures refused { result ≡ Ok (Stays Outcome.Refused) →
         IsRefused subject.entry ⊎ Contains request.entry.chosen.now.levels Level.Deny }
     ensures read { result ≡ Ok (Stays Outcome.Unread) → ⊥ }
@@ -64,17 +95,21 @@ pub(crate) fn lint(
         chosen,
         has_fixes,
     } = request;
-    let Some(parsed) = parse(subject, reports)? else {
-        return Ok(Rewriting::Stays(Outcome::Refused));
+    let Some(parsed) = parse_in(subject, chosen.dialect, reports)? else {
+        return Ok(Rewriting::Stays(not_parsed(chosen.dialect, tally)));
     };
-    let slow = SlowParts::of(subject.alloc, &parsed, chosen, known)?;
-    let found = reported(subject, &parsed, grammar, chosen, known, &slow)?;
+    let levels = levels_in(subject.pattern, &parsed.trivia, chosen);
+    let slow = SlowParts::of(subject.alloc, &parsed, &levels, known)?;
+    let Some(found) = reported(subject, &parsed, grammar, &levels, known, &slow)? else {
+        tally.pass_over();
+        return Ok(Rewriting::Stays(Outcome::Good));
+    };
     if has_fixes && let Some(text) = fixed(subject, &parsed, &found)? {
         return Ok(Rewriting::Changed(text));
     }
     reports.problems(subject, &parsed, chosen, &found)?;
     if chosen.is_verbose {
-        reports.not_searched(subject, &slow.too_large)?;
+        reports.not_searched(subject, &slow.not_searched)?;
     }
     if count_denied(&found, chosen, tally) {
         tally.denied = tally.denied.saturating_add(1);
@@ -92,8 +127,11 @@ fn fixed_once(
     let Ok(parsed) = subject.parse()? else {
         return Ok(None);
     };
+    let levels = levels_in(subject.pattern, &parsed.trivia, chosen);
     let slow = SlowParts::new(subject.alloc);
-    let found = reported(subject, &parsed, None, chosen, known, &slow)?;
+    let Some(found) = reported(subject, &parsed, None, &levels, known, &slow)? else {
+        return Ok(None);
+    };
     Ok(fixed(subject, &parsed, &found)?)
 }
 

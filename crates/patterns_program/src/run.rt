@@ -72,9 +72,7 @@ impl<S: System, O: Write, E: Write> Visitor for FileRun<'_, '_, S, O, E> {
         self.outcome = self.outcome.and(found);
         self.put_unless_held()?;
         self.work.tally.add(found);
-        if let Some(size) = self.size {
-            self.work.tally.read_to(size, entry.span.end);
-        }
+        self.work.tally.read_to(self.size, entry.span.end);
         let bytes = entry.pattern.len().saturating_add(1);
         self.screen.go_on(bytes, &self.work.tally)?;
         Ok(())

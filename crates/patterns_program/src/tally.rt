@@ -25,6 +25,8 @@ pub(crate) struct Tally {
     pub(crate) fixable: u64,
     /// Those that are not as the verb asks, are accepted, and in which a denied rule reports.
     pub(crate) denied: u64,
+    /// Those that their dialect reads otherwise, or that are invalid and of another dialect.
+    passed_over: u64,
     errors: u64,
     pub(crate) warnings: u64,
 }
@@ -44,6 +46,7 @@ impl Tally {
             formatted: 0,
             fixable: 0,
             denied: 0,
+            passed_over: 0,
             errors: 0,
             warnings: 0,
         }
@@ -56,10 +59,12 @@ impl Tally {
         self.read = 0;
     }
 
-    /// Goes on in the file, which has this size, to the offset.
-    pub(crate) fn read_to(&mut self, size: usize, offset: usize) {
-        self.size = size;
-        self.read = offset.min(size);
+    /// Goes on in the file, which has this size if it is known, to the offset.
+    pub(crate) fn read_to(&mut self, size: Option<usize>, offset: usize) {
+        if let Some(size) = size {
+            self.size = size;
+            self.read = offset.min(size);
+        }
     }
 
     /// How much of the files is done, in percent, as far as that is known.
@@ -83,6 +88,11 @@ impl Tally {
         if outcome == Outcome::Refused {
             self.failed = self.failed.saturating_add(1);
         }
+    }
+
+    /// Counts a pattern that is passed over.
+    pub(crate) fn pass_over(&mut self) {
+        self.passed_over = self.passed_over.saturating_add(1);
     }
 
     /// Counts a report of a rule that has the level.
@@ -164,6 +174,13 @@ impl fmt::Display for Tally {
         }
         if self.warnings > 0 {
             write!(f, ", {}", Counted(self.warnings, "warning"))?;
+        }
+        if self.passed_over > 0 {
+            let count = Thousands(self.passed_over);
+            write!(
+                f,
+                ", {count} passed over: invalid here, or read otherwise in their dialect"
+            )?;
         }
         Ok(())
     }

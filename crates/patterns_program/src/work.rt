@@ -15,6 +15,7 @@ use crate::lint::{LintRequest, fixed_further, lint};
 use crate::outcome::Outcome;
 use crate::rewriting::{PatternForm, Rewriting, formatted};
 use crate::tally::Tally;
+use dialects::dialect::Dialect;
 use lint_rules::chosen::Chosen;
 use pattern_files::entry::Entry;
 use pattern_files::lines::BOM;
@@ -58,8 +59,10 @@ pub(crate) struct Work<'a> {
     pub(crate) job: Job<'a>,
     /// The flags of the file that is read.
     pub(crate) flags: u32,
-    /// The levels of rules for it.
+    /// The levels of rules for the pattern that is read, and its dialect.
     levels: Chosen,
+    /// The dialect of the file that is read.
+    dialect: Option<Dialect>,
     /// The form that `format` brings them into.
     form: PatternForm,
     /// Whether the patterns are in a file, and not arguments.
@@ -89,6 +92,7 @@ impl<'a> Work<'a> {
             job,
             flags,
             levels: Chosen::by_default(false),
+            dialect: None,
             form: PatternForm::NONE,
             has_file: true,
             changes: Changes::none(alloc, Kept::Records(Vec::new(alloc))),
@@ -109,6 +113,7 @@ impl<'a> Work<'a> {
     {
         self.flags = flags;
         self.levels = levels;
+        self.dialect = levels.dialect;
         self.form = form;
         self.begin_pass(Kept::Records(Vec::new(self.alloc)));
     }
@@ -149,6 +154,17 @@ impl<'a> Work<'a> {
         }
     }
 
+    /// Chooses the dialect of a pattern: that of the arguments, or else that of its record, or else that of its file.
+    fn see_dialect(&mut self, recorded: Option<Dialect>)
+        ensures job { self.new.job ≡ self.old.job }
+        ensures flags { self.new.flags ≡ self.old.flags }
+    {
+        self.levels.dialect = match (self.job.choices.dialect, recorded) {
+            (Some(dialect), _) | (None, Some(dialect)) => Some(dialect),
+            (None, None) => self.dialect,
+        };
+    }
+
     /// Where a pattern is, with the colours of the outputs.
     fn located<'s>(&self, file: &'s str, spot: Spot<'s>) -> Location<'s> {
         let paints = self.job.paints;
@@ -186,6 +202,7 @@ impl<'a> Work<'a> {
                 style: Style::Lines,
                 has_spans: false,
                 has_each_literal: false,
+                has_facts: false,
                 has_classes,
                 has_trivia: false,
             },
@@ -271,6 +288,7 @@ impl<'a> Work<'a> {
             → IsEntryAccepted self.old.flags entry.entry }
     {
         self.see_flags(entry.flags.unwrap_or(self.flags));
+        self.see_dialect(entry.dialect);
         self.end_last(entry.end)?;
         let subject = self.subject(entry);
         match self.rewrite(subject, entry.grammar, self.may_change(entry))? {

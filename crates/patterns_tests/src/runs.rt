@@ -129,8 +129,7 @@ const NO_SPACE: &str = "patterns: full: cannot be written: no storage space
 1 pattern, 0 refused, 1 warning
 ";
 
-const LEFT_IN_MOVING: &str =
-    "moving:1:3: warning: `a` is branch 1 already [duplicate-branch]
+const LEFT_IN_MOVING: &str = "moving:1:3: warning: `a` is branch 1 already [duplicate-branch]
 a|a
 - ^
 branch 1

@@ -1,5 +1,5 @@
 //! The comments of a pattern.
-use fancy_syntax::{Trivium, TriviumKind};
+use fancy_syntax::Trivium;
 use std::alloc::{AllocError, Global};
 
 /// Adds a line for each comment of a pattern, with its byte offset and its text.
@@ -10,7 +10,7 @@ pub fn push_comments(
     trivia: &[Trivium],
 ) -> Result<(), AllocError> {
     for Trivium { span, kind } in trivia {
-        if matches!(kind, TriviumKind::Comment | TriviumKind::LineComment)
+        if kind.is_comment()
             && let Some(text) = span.text(pattern)
         {
             lines.push_str(format!(in alloc; "byte {}: {text}\n", span.start)?.as_str())?;

@@ -2,13 +2,15 @@
 //!
 //! `escape` reads the same escapes to the same leaves. So whatever is here can be deleted with its calls, and each result
 //! stays as it is; what each reader saves is in the measurements.
-ghost use Rattle.std.specs.Prelude.{◌≡◌, ◌==◌, ℕ, ◌<◌, ◌≤◌, false, if◌then◌else◌, length, chars, IfSome};
+ghost use Rattle.std.specs.Prelude.{◌≡◌, ◌==◌, ℕ, ◌<◌, ◌≤◌, false, if◌then◌else◌, [], length, chars, IfSome};
 ghost use Rattle.fancy_lex.specs.BoundarySteps as boundaries;
 ghost use Rattle.fancy_lex.specs.Characters.{code};
 ghost use Rattle.fancy_lex.specs.Escape as spec;
 ghost use Rattle.fancy_lex.specs.EscapeViews.{escape_of};
 ghost use Rattle.fancy_lex.specs.Hex as codes;
 ghost use Rattle.fancy_lex.specs.Reading.{gives};
+ghost use Rattle.fancy_lex.specs.Text.{reach_of};
+ghost use Rattle.fancy_lex.specs.TokenComments.{escape_comments, token_comments};
 
 use crate::escape::boundary::unnamed_boundary;
 use crate::escape::hex::{fixed_digits, leaf_of_value};
@@ -27,6 +29,7 @@ use crate::text::{after, next};
 pub fn short_escape(text: &str, flags: Flags) -> Option<(Escaped<'_>, &str)>
     ensures value { IfSome result (λ p.
         spec.escape flags false (chars text.now) ≡ gives (escape_of p.0) (chars p.1.now)) }
+    ensures no_comments { IfSome result (λ p. escape_comments (chars text.now) (reach_of (chars p.1.now)) ≡ []) }
     ensures shorter { IfSome result (λ p. length p.1.now < length text.now) }
 {
     let (c, rest) = next(text)?;
@@ -78,6 +81,7 @@ fn short_hex(text: &str, width: u32, flags: Flags) -> Option<(Escaped<'static>, 
     requires { width ≤ 8 }
     ensures value { IfSome result (λ p.
         codes.hex flags width (chars text.now) ≡ gives (escape_of p.0) (chars p.1.now)) }
+    ensures no_comments { IfSome result (λ p. token_comments (chars text.now) (reach_of (chars p.1.now)) ≡ []) }
     ensures within { IfSome result (λ p. length p.1.now ≤ length text.now) }
 {
     if begins_layout(text, flags.ignore_space) {

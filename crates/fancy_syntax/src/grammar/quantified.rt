@@ -21,7 +21,7 @@ use fancy_lex::counts::Counts;
 use fancy_lex::error::{ParseError, ReadError};
 use fancy_lex::flags::Flags;
 use fancy_lex::group_starts::counts;
-use fancy_lex::text::{Reach, after, byte_len, reach, reach_before};
+use fancy_lex::text::{after, byte_len, reach, reach_before};
 use std::alloc::{AllocError, Global};
 use std::mem;
 
@@ -130,7 +130,7 @@ fn quantify_once<S: Spanning>(
     let rest = skip_layout(*current)?;
     spans.pass_layout(*current, rest)?;
     current.rest = rest;
-    let start = reach(rest);
+    let start = rest;
     let Some((counts, rest)) = counts(current.rest, current.flags.ignore_space) else {
         return Ok(());
     };
@@ -138,7 +138,7 @@ fn quantify_once<S: Spanning>(
     repeat(alloc, tree, counts, start, current, left, spans)
 }
 
-/// Puts the tree under a quantifier with these counts, which begin at the reach, and reads what follows them.
+/// Puts the tree under a quantifier with these counts, which begin at `start`, and reads what follows them.
 ///
 /// TargetNotRepeatable at the operator or the closing brace, if the tree takes no quantifier.
 #[inline(always)]
@@ -146,7 +146,7 @@ fn repeat<S: Spanning>(
     alloc: Global,
     tree: &mut Expr,
     counts: Counts,
-    start: Reach,
+    start: &str,
     current: &mut State,
     left: usize,
     spans: &mut S,
@@ -155,9 +155,10 @@ fn repeat<S: Spanning>(
         (spec.with_counts left (view tree.old) (state current.old) (Some (counts, chars current.old.rest.now))) }
     ensures within { length current.new.rest.now ≤ length current.old.rest.now }
     ensures spans { (l : Log) → S.records spans.old l → OnOk result (S.records spans.new
-        (counted_recorded start (view tree.old) (state current.old) l (counts, chars current.old.rest.now))) }
+        (counted_recorded (chars start.now) (view tree.old) (state current.old) l (counts, chars current.old.rest.now))) }
 {
     if is_repeatable(current.flags, tree) {
+        spans.pass_counts(counts, start, current.rest)?;
         let after_counts = reach(current.rest);
         let suffix = read_suffix(current, counts, spans)?;
         put_under(alloc, tree, current.flags, counts, suffix)?;
@@ -178,19 +179,20 @@ fn repeat<S: Spanning>(
     Err(ReadError::At(operator, ParseError::TargetNotRepeatable))
 }
 
-/// Reads what follows the counts of a quantifier that leaves nothing in the tree. The counts begin at the reach.
+/// Reads what follows the counts of a quantifier that leaves nothing in the tree. The counts begin at `start`.
 fn drop_quantifier<S: Spanning>(
     counts: Counts,
-    start: Reach,
+    start: &str,
     current: &mut State,
     spans: &mut S,
 ) -> Result<Suffix, ReadError>
     ensures value { GivesSuffix result (state current.new) (spec.suffix (state current.old) counts) }
     ensures within { length current.new.rest.now ≤ length current.old.rest.now }
     ensures spans { (l : Log) → S.records spans.old l →
-        OnOk result (S.records spans.new (quantifier_dropped start (state current.old) counts l)) }
+        OnOk result (S.records spans.new (quantifier_dropped (chars start.now) (state current.old) counts l)) }
 {
-    spans.drop_text(start, reach(current.rest))?;
+    spans.drop_text(reach(start), reach(current.rest))?;
+    spans.pass_counts(counts, start, current.rest)?;
     let operators = reach(skip_layout(*current)?);
     let suffix = read_suffix(current, counts, spans)?;
     spans.drop_text(operators, reach(current.rest))?;

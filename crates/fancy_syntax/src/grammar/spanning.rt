@@ -9,12 +9,15 @@ ghost use Rattle.fancy_syntax.specs.Parsed.{state};
 ghost use Rattle.fancy_syntax.specs.Recording.{body_separated};
 ghost use Rattle.fancy_syntax.specs.View.{view};
 ghost use Rattle.fancy_grammar.specs.State.{skipped};
+ghost use Rattle.fancy_grammar.specs.Trivia.{inner_at, inner_of_counts};
 ghost use Rattle.fancy_lex.specs.LayoutSteps.{rest};
 
 use crate::expr::Expr;
 use crate::grammar::recorded::RecordedTrivium;
 use crate::grammar::state::State;
-use std::alloc::AllocError;
+use fancy_lex::counts::Counts;
+use fancy_lex::text::Reach;
+use std::alloc::{AllocError, Global};
 
 /// What is done with the reaches that the parser passes. If no spans are recorded, nothing is done, and calls are
 /// compiled without it.
@@ -26,6 +29,16 @@ pub(crate) trait Spanning: Drop {
     fn pass_layout(&mut self, current: State, after: &str) -> Result<(), AllocError>
         requires { skipped (state current) ≡ rest (chars after.now) }
         ensures { (l : Log) → records self.old l → OnOk result (records self.new (layout_passed (state current.entry) l)) };
+
+    /// The counts of a quantifier at the front, which `after` follows, are passed.
+    fn pass_counts(&mut self, counts: Counts, start: &str, after: &str) -> Result<(), AllocError>
+        ensures { (l : Log) → records self.old l → OnOk result (records self.new
+            (pass (inner_of_counts counts (chars start.now) (chars after.now)) l)) };
+
+    /// The token that begins the atom at `start`, and that ends at the reach, is passed.
+    fn pass_start(&mut self, alloc: Global, start: State, end: Reach) -> Result<(), AllocError>
+        ensures { (l : Log) → records self.old l → OnOk result (records self.new
+            (pass (inner_at (state start.entry) end) l)) };
 
     /// A part of the pattern that no node has, or may have, is passed.
     fn pass(&mut self, part: RecordedTrivium) -> Result<(), AllocError>
@@ -99,6 +112,21 @@ impl Spanning for NoSpans {
 
     #[inline(always)]
     fn pass_layout(&mut self, _current: State, _after: &str) -> Result<(), AllocError> {
+        Ok(())
+    }
+
+    #[inline(always)]
+    fn pass_counts(
+        &mut self,
+        _counts: Counts,
+        _start: &str,
+        _after: &str,
+    ) -> Result<(), AllocError> {
+        Ok(())
+    }
+
+    #[inline(always)]
+    fn pass_start(&mut self, _alloc: Global, _start: State, _end: Reach) -> Result<(), AllocError> {
         Ok(())
     }
 

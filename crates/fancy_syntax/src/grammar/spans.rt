@@ -1,11 +1,12 @@
 //! The spans of the nodes of a raw tree, each tree in preorder, and what no node has.
-ghost use Rattle.std.specs.Prelude.{◌≡◌, false, map, IfOk, OnOk};
+ghost use Rattle.std.specs.Prelude.{◌≡◌, true, false, ◌∷◌, chars, map, IfOk, OnOk};
 ghost use Rattle.fancy_syntax.specs.Log as spec;
 ghost use Rattle.fancy_syntax.specs.Log.{layout_passed};
 ghost use Rattle.fancy_syntax.specs.LogViews.{log_of};
 ghost use Rattle.fancy_syntax.specs.Parsed.{state};
 ghost use Rattle.fancy_syntax.specs.TriviaViews.{recorded_part};
-ghost use Rattle.fancy_grammar.specs.Trivia.{dropped, of_comment, part};
+ghost use Rattle.fancy_grammar.specs.Trivia.{dropped, of_comment, of_inner, part};
+ghost use Rattle.fancy_lex.specs.TokenComments.{class_comments, escape_comments, token_comments};
 ghost use Rattle.fancy_lex.specs.CommentViews.{comment_of};
 
 mod returned;
@@ -17,8 +18,12 @@ use crate::grammar::recorded::{
 use crate::grammar::spanning::Spanning;
 use crate::grammar::state::State;
 use crate::trivium::TriviumKind;
-use fancy_lex::layout::{LayoutComment, first_comment};
-use fancy_lex::text::{reach, reach_before};
+use fancy_lex::class::next_escape;
+use fancy_lex::counts::Counts;
+use fancy_lex::escape::after_layout_letter;
+use fancy_lex::flags::Flags;
+use fancy_lex::layout::{LayoutComment, first_comment, first_in_token, has_hash};
+use fancy_lex::text::{Reach, next, reach, reach_before};
 use std::alloc::{AllocError, Global};
 
 /// The nodes that have been read, the open atoms, and what was passed that no node has.
@@ -74,6 +79,59 @@ impl Spans {
         while let Some(comment) = first_comment(rest, current.flags.ignore_space) {
             self.passed.push(trivium_of_comment(comment))?;
             rest = comment.rest;
+        }
+        Ok(())
+    }
+
+    /// Records the comments in the token at the front of `text` that ends at the reach.
+    #[inline(never)]
+    fn pass_token(&mut self, text: &str, end: Reach) -> Result<(), AllocError>
+        ensures { OnOk result (log_of self.new ≡
+            spec.pass (map of_inner (token_comments (chars text.now) end)) (log_of self.old)) }
+    {
+        // Usually there is no `#`, and so no comment.
+        if !has_hash(text, end) {
+            return Ok(());
+        }
+        let mut rest = text;
+        while let Some(comment) = first_in_token(rest, end) {
+            self.passed.push(inner_trivium(comment))?;
+            rest = comment.rest;
+        }
+        Ok(())
+    }
+
+    /// Records the comments in an escape that ends at the reach. `text` is what follows its backslash.
+    fn pass_escape(&mut self, text: &str, end: Reach) -> Result<(), AllocError>
+        ensures { OnOk result (log_of self.new ≡
+            spec.pass (map of_inner (escape_comments (chars text.now) end)) (log_of self.old)) }
+    {
+        match after_layout_letter(text) {
+            Some(rest) => self.pass_token(rest, end),
+            None => Ok(()),
+        }
+    }
+
+    /// Records the comments in a class that ends at the reach. `text` is what follows its bracket.
+    #[inline(never)]
+    fn pass_class(
+        &mut self,
+        alloc: Global,
+        text: &str,
+        end: Reach,
+        flags: Flags,
+    ) -> Result<(), AllocError>
+        ensures { OnOk result (log_of self.new ≡
+            spec.pass (map of_inner (class_comments flags (chars text.now) end)) (log_of self.old)) }
+    {
+        // Usually there is no `#`, and so no comment.
+        if !has_hash(text, end) {
+            return Ok(());
+        }
+        let mut rest = text;
+        while let Some((inside, after)) = next_escape(alloc, rest, end, flags) {
+            self.pass_escape(inside, reach(after))?;
+            rest = after;
         }
         Ok(())
     }
@@ -134,6 +192,11 @@ impl Spans {
     {
         let mut from = start;
         for part in parts {
+            // A part that begins before the end of the last one lies in it.
+            if part.start > from {
+                self.pass(*part)?;
+                continue;
+            }
             self.drop_text(from, part.start)?;
             self.pass(*part)?;
             from = part.end;
@@ -199,6 +262,26 @@ impl Spanning for Spans {
             return Ok(());
         }
         self.pass_comments(current)
+    }
+
+    fn pass_counts(&mut self, counts: Counts, start: &str, after: &str) -> Result<(), AllocError> {
+        if counts.braces {
+            self.pass_token(start, reach(after))
+        } else {
+            Ok(())
+        }
+    }
+
+    fn pass_start(&mut self, alloc: Global, start: State, end: Reach) -> Result<(), AllocError> {
+        let Some((c, rest)) = next(start.rest) else {
+            return Ok(());
+        };
+        match c {
+            '(' => self.pass_token(rest, end),
+            '\\' => self.pass_escape(rest, end),
+            '[' => self.pass_class(alloc, rest, end, start.flags),
+            _ => Ok(()),
+        }
     }
 
     fn pass(&mut self, part: RecordedTrivium) -> Result<(), AllocError> {
@@ -348,5 +431,19 @@ fn trivium_of_comment(comment: LayoutComment<'_>) -> RecordedTrivium
         end: reach(comment.rest),
         kind,
         unnamed: false,
+    }
+}
+
+/// A comment in a token, as it is recorded.
+fn inner_trivium(comment: LayoutComment<'_>) -> RecordedTrivium
+    ensures { recorded_part result ≡ of_inner (comment_of comment.entry) }
+{
+    RecordedTrivium {
+        kind: if comment.is_line {
+            TriviumKind::InnerLineComment
+        } else {
+            TriviumKind::InnerComment
+        },
+        ..trivium_of_comment(comment)
     }
 }

@@ -8,10 +8,10 @@ ghost use Rattle.fancy_grammar.specs.Depth.{max_depth};
 ghost use Rattle.fancy_grammar.specs.Items.{items};
 ghost use Rattle.fancy_syntax.specs.Decided.{decided, all_decided};
 ghost use Rattle.fancy_syntax.specs.Found.{FindsMore, openings_found};
-ghost use Rattle.fancy_syntax.specs.Log.{Log, group_opened, body_opened};
+ghost use Rattle.fancy_syntax.specs.Log.{Log, body_opened, branches_opened, group_begun, group_opened};
 ghost use Rattle.fancy_syntax.specs.Machine as machine;
 ghost use Rattle.fancy_syntax.specs.Machine.{OpensPart, Part, IsPart, GivesStep, EndsPiece, part_of, TurnsLast};
-ghost use Rattle.fancy_syntax.specs.Recording.{added, atom_read, quants_recorded};
+ghost use Rattle.fancy_syntax.specs.Recording.{added, atom_read, quants_recorded, token_read};
 ghost use Rattle.fancy_syntax.specs.Parsed.{group_kind, state};
 ghost use Rattle.fancy_grammar.specs.Quantified.{quants};
 ghost use Rattle.fancy_grammar.specs.Spans.{condition_span};
@@ -71,24 +71,24 @@ pub(crate) fn read_step<'a, S: Spanning>(
             Ok(None)
         }
         AtomStart::Read(atom) => {
-            record_atom(before, &atom, *current, spans)?;
+            record_atom(alloc, before, &atom, *current, spans)?;
             found.record(&atom);
             push(trees, atom)?;
             end_piece(alloc, trees, current, left, depth, spans)?;
             Ok(None)
         }
         AtomStart::Group(kind) => {
-            record_opening(kind, before, *current, spans)?;
+            record_opening(alloc, kind, before, *current, spans)?;
             let kind = found.add(alloc, kind)?;
             let paren = reach(before.rest);
             Ok(Some(OpenPart::Group { kind, reach: paren }))
         }
         AtomStart::Condition => {
-            spans.open(reach(before.rest), reach(current.rest))?;
+            record_branches(alloc, before, *current, spans)?;
             Ok(Some(OpenPart::Condition))
         }
         AtomStart::Body { condition, start } => {
-            record_condition(before, start, *current, spans)?;
+            record_condition(alloc, before, start, *current, spans)?;
             found.record(&condition);
             Ok(Some(OpenPart::Body {
                 condition,
@@ -96,15 +96,16 @@ pub(crate) fn read_step<'a, S: Spanning>(
             }))
         }
         AtomStart::AbsentBranch => {
-            spans.open(reach(before.rest), reach(current.rest))?;
+            record_branches(alloc, before, *current, spans)?;
             Ok(Some(OpenPart::First))
         }
     }
 }
 
-/// Records an atom that is read at once: a leaf, or inline flags, whose tree is an Empty.
+/// Records an atom that is read at once, with the comments in it.
 #[inline(always)]
 fn record_atom<S: Spanning>(
+    alloc: Global,
     start: State,
     atom: &Expr,
     end: State,
@@ -112,6 +113,21 @@ fn record_atom<S: Spanning>(
 ) -> Result<(), AllocError>
     ensures { (l : Log) → S.records spans.old l → OnOk result (S.records spans.new
         (atom_read (state start.entry) (states.done (view atom.now) (state end.entry)) l)) }
+{
+    record_token(start, atom, end, spans)?;
+    spans.pass_start(alloc, start, reach(end.rest))
+}
+
+/// Records a leaf, or inline flags, whose tree is an Empty.
+#[inline(always)]
+fn record_token<S: Spanning>(
+    start: State,
+    atom: &Expr,
+    end: State,
+    spans: &mut S,
+) -> Result<(), AllocError>
+    ensures { (l : Log) → S.records spans.old l → OnOk result (S.records spans.new
+        (token_read (state start.entry) (states.done (view atom.now) (state end.entry)) l)) }
 {
     spans.record_leaf(reach(start.rest), reach(end.rest))?;
     if is_empty(atom) {
@@ -124,9 +140,10 @@ fn record_atom<S: Spanning>(
     Ok(())
 }
 
-/// Records the opening of a group of one alternation, whose contents begin at `inside`. A flag group has no node.
+/// Records the opening of a group of one alternation, whose contents begin at `inside`, with the comments in it.
 #[inline(always)]
 fn record_opening<S: Spanning>(
+    alloc: Global,
     kind: GroupKind,
     start: State,
     inside: State,
@@ -134,6 +151,21 @@ fn record_opening<S: Spanning>(
 ) -> Result<(), AllocError>
     ensures { (l : Log) → S.records spans.old l → OnOk result (S.records spans.new
         (group_opened (group_kind kind.entry) (state start.entry) (state inside.entry) l)) }
+{
+    begin_group(kind, start, inside, spans)?;
+    spans.pass_start(alloc, start, reach(inside.rest))
+}
+
+/// Records the opening of a group of one alternation. A flag group has no node.
+#[inline(always)]
+fn begin_group<S: Spanning>(
+    kind: GroupKind,
+    start: State,
+    inside: State,
+    spans: &mut S,
+) -> Result<(), AllocError>
+    ensures { (l : Log) → S.records spans.old l → OnOk result (S.records spans.new
+        (group_begun (group_kind kind.entry) (state start.entry) (state inside.entry) l)) }
 {
     spans.open(reach(start.rest), reach(inside.rest))?;
     let opening = TriviumKind::Opening {
@@ -153,9 +185,25 @@ fn record_opening<S: Spanning>(
     }
 }
 
+/// Records the opening of any other atom that holds branches, which begin at `inside`.
+#[inline(always)]
+fn record_branches<S: Spanning>(
+    alloc: Global,
+    start: State,
+    inside: State,
+    spans: &mut S,
+) -> Result<(), AllocError>
+    ensures { (l : Log) → S.records spans.old l → OnOk result (S.records spans.new
+        (branches_opened (state start.entry) (state inside.entry) l)) }
+{
+    spans.open(reach(start.rest), reach(inside.rest))?;
+    spans.pass_start(alloc, start, reach(inside.rest))
+}
+
 /// Records the opening of a conditional whose condition, no alternation, begins at the reach. Its body begins at `inside`.
 #[inline(always)]
 fn record_condition<S: Spanning>(
+    alloc: Global,
     start: State,
     condition: Reach,
     inside: State,
@@ -166,6 +214,7 @@ fn record_condition<S: Spanning>(
         (body_opened (state start.entry) (state inside.entry) l)) }
 {
     spans.open(reach(start.rest), condition)?;
+    spans.pass_start(alloc, start, condition)?;
     spans.record_leaf(condition, reach_before(inside.rest))?;
     spans.begin_body(inside.rest);
     Ok(())

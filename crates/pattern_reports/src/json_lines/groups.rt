@@ -116,6 +116,8 @@ fn kind_name(kind: TriviumKind) -> &'static str {
         TriviumKind::Opening { .. } => "Opening",
         TriviumKind::Closing => "Closing",
         TriviumKind::Dropped => "Dropped",
+        TriviumKind::InnerComment => "InnerComment",
+        TriviumKind::InnerLineComment => "InnerLineComment",
     }
 }
 
@@ -144,7 +146,9 @@ fn write_kind(alloc: Global, writer: &mut Writer, kind: TriviumKind) -> Result<(
         TriviumKind::Comment
         | TriviumKind::LineComment
         | TriviumKind::Closing
-        | TriviumKind::Dropped => Ok(()),
+        | TriviumKind::Dropped
+        | TriviumKind::InnerComment
+        | TriviumKind::InnerLineComment => Ok(()),
     }
 }
 

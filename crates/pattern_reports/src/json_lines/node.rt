@@ -5,6 +5,8 @@ use fancy_lex::name::CaptureGroupTarget;
 use fancy_syntax::expr::{Absent, AstNode, Expr};
 use fancy_syntax::spanned::SpannedNode;
 use json::Writer;
+use pattern_facts::{Facts, Lengths, MaxLength};
+use patterns_listing::fact_words::FactRows;
 use patterns_text::position::CharacterTable;
 use std::alloc::AllocError;
 
@@ -173,6 +175,41 @@ pub(super) fn write_own(
     write_fields(writer, node.expr())
 }
 
+/// Writes a field that is lengths; `max` is null without a limit.
+fn write_lengths(writer: &mut Writer, name: &str, lengths: Lengths) -> Result<(), AllocError> {
+    let max = match lengths.max {
+        MaxLength::AtMost(max) => Some(max),
+        MaxLength::Unlimited => None,
+    };
+    writer.key(name)?;
+    writer.begin_object()?;
+    write_number(writer, "min", lengths.min as u64)?;
+    write_some_number(writer, "max", max)?;
+    writer.end_object()
+}
+
+/// Writes what is known of a node's matches, or null.
+fn write_known(writer: &mut Writer, facts: Option<Facts>) -> Result<(), AllocError> {
+    let Some(facts) = facts else {
+        return writer.null();
+    };
+    writer.begin_object()?;
+    write_lengths(writer, "characters", facts.characters)?;
+    write_lengths(writer, "bytes", facts.bytes)?;
+    write_bool(writer, "is_anchored_at_start", facts.is_anchored_at_start)?;
+    write_bool(writer, "is_anchored_at_end", facts.is_anchored_at_end)?;
+    writer.end_object()
+}
+
+/// Writes the field of what is known of the next node's matches, if it is written.
+fn write_facts(writer: &mut Writer, facts: &mut FactRows) -> Result<(), AllocError> {
+    let Some(row) = facts.take() else {
+        return Ok(());
+    };
+    writer.key("facts")?;
+    write_known(writer, row)
+}
+
 /// Whether the children of the node are a list.
 fn is_row(node: &Expr) -> bool {
     matches!(node, Expr::Concat(_) | Expr::Alt(_))
@@ -220,15 +257,17 @@ fn end_children(writer: &mut Writer, parent: &Expr) -> Result<(), AllocError> {
 pub(super) fn write_node(
     writer: &mut Writer,
     characters: &CharacterTable,
+    facts: &mut FactRows,
     node: SpannedNode<'_>,
 ) -> Result<(), AllocError> {
     writer.begin_object()?;
     write_own(writer, characters, node)?;
+    write_facts(writer, facts)?;
     begin_children(writer, node.expr())?;
     let mut index = 0usize;
     for child in node.children() {
         begin_child(writer, node.expr(), index)?;
-        write_node(writer, characters, child)?;
+        write_node(writer, characters, facts, child)?;
         index = index.saturating_add(1);
     }
     end_children(writer, node.expr())?;

@@ -2,7 +2,7 @@ use Rattle.std.proofs.Common.{◌≤◌, arith, sym, subst}
 use Rattle.fancy_grammar.specs.Tree.{levels, levels_all, trees_of}
 use Rattle.fancy_syntax.proofs.Descents.{levels_item}
 use Rattle.fancy_syntax.specs.View.{view, views}
-use Rattle.backtracking.specs.TwoWays.{Goes, Turns, no_turn}
+use Rattle.backtracking.specs.TwoWays.{Goes, passed, Turns, no_turn}
 use Rattle.backtracking.specs.Remains.{rest_of}
 use Rattle.backtracking.proofs.WayLemmas.{weaker, at_some, went_empty, went_group, went_concat, went_next, went_all}
 use Rattle.backtracking.proofs.WayLemmas.{went_branch, went_turn, went_repeat}
@@ -10,6 +10,9 @@ use Rattle.backtracking.proofs.checker.+go_over.Goals as goal
 
 pub go_over-returns-in-Empty : goal.go_over-returns-in-Empty
 go_over-returns-in-Empty t c = went_empty c.args.unicode (view c.args.tree.now) (rest_of c.args.from) c.in-Empty.ensures
+
+pub go_over-returns-in-Passed : goal.go_over-returns-in-Passed
+go_over-returns-in-Passed t c = passed c.in-Passed.ensures
 
 pub go_over-returns-in-Group : goal.go_over-returns-in-Group
 go_over-returns-in-Group t c =

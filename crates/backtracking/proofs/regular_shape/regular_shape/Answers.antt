@@ -11,10 +11,11 @@ returns-then-matches c = elim c.match-matches.branch [
   | in_default w ↦ absurd (false≢true (sym w.matches-is ∙ c.if-matches.true))
 ]
 
-pub returns-else-is_one_character : goal.returns-else-is_one_character
-returns-else-is_one_character c =
+pub returns-else-may_be_passed : goal.returns-else-may_be_passed
+returns-else-may_be_passed c =
     let not_empty : c.args.tree.now ≡ Empty → ⊥ = elim c.match-matches.branch [
       | in-Empty w ↦ absurd (false≢true (sym c.if-matches.false ∙ w.matches-is))
       | in_default w ↦ w.in_default.not-Empty
     ] in
     other_leaf c.args.tree.now c.in-Leaf.ensures.node not_empty (sym c.is_one_character.ensures ∙ c.if-is_one_character.false)
+    (sym c.may_be_passed.ensures ∙ c.if-may_be_passed.false)

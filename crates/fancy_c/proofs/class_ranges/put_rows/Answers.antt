@@ -1,6 +1,7 @@
-use Rattle.fancy_c.proofs.ClassRangeLemmas.{range_put}
+use Rattle.fancy_c.specs.ClassRanges.{row}
+use Rattle.fancy_c.proofs.BufferLemmas.{mapped_put}
 use Rattle.fancy_c.proofs.class_ranges.put_rows.Goals as goal
 
 pub loop-i-preserved : goal.loop-i-preserved
 loop-i-preserved c =
-    range_put _ _ c.args.ranges.now c.loop-i.i _ _ c.row.ensures c.loop-i.invariant c.requires c.loop-i-test.true
+    mapped_put row _ _ c.args.ranges.now c.loop-i.i _ _ c.row.ensures c.loop-i.invariant c.requires c.loop-i-test.true

@@ -4,6 +4,7 @@ use denote.Shadow.{shadow}
 use Rattle.fancy_lex.specs.Comments.{comments_from}
 use Rattle.fancy_lex.specs.LayoutSteps as spec
 use Rattle.fancy_lex.specs.Text.{EndsWith}
+use Rattle.fancy_lex.specs.TokenComments.{token_comments_from}
 use Rattle.fancy_lex.proofs.layout.comment.Given as goal
 
 abbrev pub invariant-loop-c : goal.invariant-loop-c
@@ -13,6 +14,8 @@ invariant-loop-c l = record {
       (chars l.rest);
   comments : (x : Bool) (start : ℕ) → comments_from x spec.comment start (chars l.text)
       ≡ comments_from x spec.comment start (chars l.rest);
+  in_token : (end start : ℕ) → token_comments_from end spec.comment start (chars l.text)
+      ≡ token_comments_from end spec.comment start (chars l.rest);
   cut : EndsWith (chars l.text) (chars l.rest);
   within : length l.rest ≤ length l.text;
 }

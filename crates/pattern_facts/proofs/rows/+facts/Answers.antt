@@ -1,21 +1,22 @@
-use Rattle.std.proofs.Common.{◌≡◌, ◌+◌, ◌≤◌, ap, sym, subst, arith, length}
+use Rattle.std.proofs.Common.{◌≡◌, ◌+◌, ◌≤◌, ap, sym, ◌∙◌, subst, arith, length}
 use Rattle.std.proofs.Math.ListN.{set}
-use Rattle.fancy_grammar.specs.Tree.{levels, levels_all, trees_of}
+use Rattle.fancy_grammar.specs.Tree.{levels, levels_all, row, trees_of}
 use Rattle.fancy_syntax.proofs.Descents.{levels_item}
-use Rattle.fancy_syntax.proofs.PrintLemmas.{left, left_step}
+use Rattle.fancy_syntax.proofs.PrintLemmas.{left, left_step, left_end}
 use Rattle.fancy_syntax.specs.View.{view, views}
-use Rattle.pattern_facts.specs.Known.{Adds, IsLengthsOf}
+use Rattle.pattern_facts.specs.Known.{Adds, IsFactsOf, IsKnownAs}
+use Rattle.pattern_facts.specs.Lengths.{row_of}
 use Rattle.pattern_facts.specs.Lists.{IsTaken}
 use Rattle.pattern_facts.specs.Nodes.{nodes_of}
-use Rattle.pattern_facts.proofs.ListLemmas.{taken_first}
+use Rattle.pattern_facts.proofs.ListLemmas.{no_trees_in, no_trees_known, taken_first, taken_all}
 use Rattle.pattern_facts.proofs.RowLemmas.{adds_node, adds_two, adds_three, rows_first, rows_next, rows_end}
 use Rattle.pattern_facts.proofs.rows.+facts.Goals as goal
 
-pub add_below-returns-in_ok-below-in-Around-clause-lengths :
-    goal.add_below-returns-in_ok-below-in-Around-clause-lengths
-add_below-returns-in_ok-below-in-Around-clause-lengths t c =
-    subst (λ x. IsLengthsOf c.args.unicode x c.lengths_around.result) (sym c.in-Around.ensures.node)
-    (c.lengths_around.ensures c.args.unicode (view c.in-Around.child.now) c.in_ok-below-in-Around.ensures.lengths)
+pub add_below-returns-in_ok-below-in-Around-clause-facts :
+    goal.add_below-returns-in_ok-below-in-Around-clause-facts
+add_below-returns-in_ok-below-in-Around-clause-facts t c =
+    subst (λ x. IsFactsOf c.args.unicode x c.facts_around.result) (sym c.in-Around.ensures.node)
+    (c.facts_around.ensures c.args.unicode (view c.in-Around.child.now) c.in_ok-below-in-Around.ensures.facts)
 
 pub add_below-returns-in_ok-add_node-in-Conditional-3-clause-rows :
     goal.add_below-returns-in_ok-add_node-in-Conditional-3-clause-rows
@@ -45,7 +46,7 @@ add_list-loop-tree-init t c =
           c.add_node.new.rows.items new is c.in_ok-all.ensures.rows h;
       taken = subst (λ xs. IsTaken c.args.unicode c.args.kind (trees_of (views xs)) (left more 0) c.in_ok-all.all)
           (sym is) (taken_first c.args.unicode c.args.kind (trees_of (views more)) (view first) c.in_ok-all.all
-          c.in_ok-all.ensures.lengths);
+          c.in_ok-all.ensures.facts);
     }
 
 pub add_list-add_node-requires-in-loop-tree : goal.add_list-add_node-requires-in-loop-tree
@@ -69,7 +70,7 @@ add_list-loop-tree-preserved t c =
           c.loop-tree-test.true c.tree-item.is c.in_ok-one.ensures.rows h);
       taken = c.with_next-all.ensures c.args.unicode all (left more (i + 1)) (view one)
           (subst (λ ts. IsTaken c.args.unicode c.args.kind all ts c.loop-tree.all) step c.loop-tree.invariant.taken)
-          c.in_ok-one.ensures.lengths;
+          c.in_ok-one.ensures.facts;
     }
 
 pub add_list-returns-clause-rows : goal.add_list-returns-clause-rows
@@ -77,12 +78,26 @@ add_list-returns-clause-rows t c =
     c.loop-tree.invariant.rows c.loop-tree.rows.items
     (rows_end c.args.unicode c.in-Some.more.now c.loop-tree.tree-index c.loop-tree.rows.items c.loop-tree-test.false)
 
+pub add_list-returns-in_default-clause-facts : goal.add_list-returns-in_default-clause-facts
+add_list-returns-in_default-clause-facts t c =
+    let none = no_trees_in c.args.trees.now (rw c.in_default.is at c.split_first.ensures.cases) in
+    subst (λ ts. IsKnownAs c.args.unicode (row (row_of c.args.kind) ts) c.empty.result) none
+    (no_trees_known c.args.unicode c.args.kind c.empty.result c.empty.ensures.characters c.empty.ensures.bytes
+    (c.empty.ensures.start ∙ c.no_branch.ensures) (c.empty.ensures.end ∙ c.no_branch-in_default.ensures))
+
+pub add_list-returns-clause-facts : goal.add_list-returns-clause-facts
+add_list-returns-clause-facts t c =
+    let all = trees_of (views c.args.trees.now) in
+    taken_all c.args.unicode c.args.kind all c.loop-tree.all
+    (subst (λ ts. IsTaken c.args.unicode c.args.kind all ts c.loop-tree.all)
+    (left_end c.in-Some.more.now c.loop-tree.tree-index c.loop-tree-test.false) c.loop-tree.invariant.taken)
+
 pub add_node-returns-in-Some-clause-rows : goal.add_node-returns-in-Some-clause-rows
 add_node-returns-in-Some-clause-rows t c =
     let old = c.args.rows.now.items in
     let node = view c.args.tree.now in
     let mid = c.add_below.new.rows.items in
     let long : c.len-index.result ≡ length old = omega (arith, c.args.rows.now.ok.0) in
-    subst (λ k. Adds c.args.unicode (nodes_of node) old (set mid k c.in_ok-lengths.lengths)) (sym long)
-    (adds_node c.args.unicode node c.in_ok-lengths.lengths old c.push.new.self.items mid c.in_ok-push.ensures.items
-    c.in_ok-lengths.ensures.rows c.in_ok-lengths.ensures.lengths)
+    subst (λ k. Adds c.args.unicode (nodes_of node) old (set mid k c.in_ok-facts.facts)) (sym long)
+    (adds_node c.args.unicode node c.in_ok-facts.facts old c.push.new.self.items mid c.in_ok-push.ensures.items
+    c.in_ok-facts.ensures.rows c.in_ok-facts.ensures.facts)

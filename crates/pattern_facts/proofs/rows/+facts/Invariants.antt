@@ -5,7 +5,7 @@ use Rattle.fancy_syntax.specs.View.{view, views}
 use Rattle.pattern_facts.specs.Known.{Adds}
 use Rattle.pattern_facts.specs.Lists.{IsTaken}
 use Rattle.pattern_facts.specs.Nodes.{nodes_of_all}
-use Rattle.pattern_facts.specs.declared.lengths.Lengths.{Lengths}
+use Rattle.pattern_facts.specs.declared.node_facts.Facts.{Facts}
 use Rattle.pattern_facts.proofs.rows.+facts.Given as goal
 
 abbrev pub decreases-add_node : goal.decreases-add_node
@@ -20,7 +20,7 @@ decreases-add_list l = 3 * levels_all (trees_of (views l.trees.now)) + 2
 -- with the rows of the trees that are left, the rows of all are added
 abbrev pub invariant-add_list-loop-tree : goal.invariant-add_list-loop-tree
 invariant-add_list-loop-tree l = record {
-  rows : (new : List (Option Lengths)) → Adds l.unicode (nodes_of_all (left l.more l.tree-index)) l.rows.items new →
+  rows : (new : List (Option Facts)) → Adds l.unicode (nodes_of_all (left l.more l.tree-index)) l.rows.items new →
       Adds l.unicode (nodes_of_all (trees_of (views l.trees))) l.fn.rows.items new;
   taken : IsTaken l.unicode l.kind (trees_of (views l.trees)) (left l.more l.tree-index) l.all;
 }

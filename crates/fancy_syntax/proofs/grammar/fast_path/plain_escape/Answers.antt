@@ -9,3 +9,4 @@ pub returns-clause-plain : goal.returns-clause-plain
 returns-clause-plain g c =
     is_plain_escape (state c.args.current) (chars c.in_ok-text.text.now) (chars c.in_ok-leaf.rest.now)
     (escape_of c.in_ok-leaf.leaf) (strip_is _ _ _ c.in_ok-text.ensures.value) c.in_ok-leaf.ensures.value
+    c.in_ok-leaf.ensures.no_comments

@@ -7,7 +7,7 @@ use Rattle.fancy_grammar.specs.Join.{solid}
 use Rattle.fancy_grammar.specs.State.{at, done}
 use Rattle.fancy_syntax.specs.Decided.{decided, all_decided, IsDecidedKind}
 use Rattle.fancy_syntax.specs.Found.{FindsMore}
-use Rattle.fancy_syntax.specs.Log.{layout_passed, leaf_recorded, opened, started}
+use Rattle.fancy_syntax.specs.Log.{layout_passed, leaf_recorded, started}
 use Rattle.fancy_syntax.specs.Machine.{a_group, a_condition, a_body, a_branch, condition, first}
 use Rattle.fancy_syntax.specs.Parsed.{state}
 use Rattle.fancy_syntax.specs.View.{views}
@@ -140,8 +140,8 @@ returns-in_ok-kind-in-Group-clause-value g c i l ts e w =
       (λ x. c.in_ok-record_opening-in-Group.ensures _ (c.in_ok-pass_layout.ensures l x), f.found _),
     )
 
-pub returns-in_ok-open-in-Condition-clause-value : goal.returns-in_ok-open-in-Condition-clause-value
-returns-in_ok-open-in-Condition-clause-value g c i l ts e w =
+pub returns-in_ok-record_branches-in-Condition-clause-value : goal.returns-in_ok-record_branches-in-Condition-clause-value
+returns-in_ok-record_branches-in-Condition-clause-value g c i l ts e w =
     let seen = rw c.in-Condition.is at c.in_ok-read_atom_start.ensures.value in (
       _,
       ts,
@@ -149,10 +149,7 @@ returns-in_ok-open-in-Condition-clause-value g c i l ts e w =
       w,
       (condition, tt, a_condition c.in_ok-rest.ensures.value seen, refl, refl),
       (
-        λ x. subst (g.S.Spanning.records c.open.new.self)
-            (λ i. opened (c.reach-in-Condition.ensures i) (c.reach-in-Condition-2.ensures i)
-            (layout_passed (state c.args.current.now) l))
-            (c.in_ok-open-in-Condition.ensures _ (c.in_ok-pass_layout.ensures l x)),
+        λ x. c.in_ok-record_branches-in-Condition.ensures _ (c.in_ok-pass_layout.ensures l x),
         nothing_more c.args.found.now,
       ),
     )
@@ -177,8 +174,8 @@ returns-in_ok-record_condition-in-Body-clause-value g c i l ts e w =
       ),
     )
 
-pub returns-in_ok-open-in-AbsentBranch-clause-value : goal.returns-in_ok-open-in-AbsentBranch-clause-value
-returns-in_ok-open-in-AbsentBranch-clause-value g c i l ts e w =
+pub returns-in_ok-record_branches-in-AbsentBranch-clause-value : goal.returns-in_ok-record_branches-in-AbsentBranch-clause-value
+returns-in_ok-record_branches-in-AbsentBranch-clause-value g c i l ts e w =
     let seen = rw c.in-AbsentBranch.is at c.in_ok-read_atom_start.ensures.value in (
       _,
       ts,
@@ -186,10 +183,7 @@ returns-in_ok-open-in-AbsentBranch-clause-value g c i l ts e w =
       w,
       (first, tt, a_branch c.in_ok-rest.ensures.value seen, refl, refl),
       (
-        λ x. subst (g.S.Spanning.records c.open-in-AbsentBranch.new.self)
-            (λ i. opened (c.reach-in-AbsentBranch.ensures i) (c.reach-in-AbsentBranch-2.ensures i)
-            (layout_passed (state c.args.current.now) l))
-            (c.in_ok-open-in-AbsentBranch.ensures _ (c.in_ok-pass_layout.ensures l x)),
+        λ x. c.in_ok-record_branches-in-AbsentBranch.ensures _ (c.in_ok-pass_layout.ensures l x),
         nothing_more c.args.found.now,
       ),
     )

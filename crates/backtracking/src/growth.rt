@@ -1,0 +1,84 @@
+//! Whether a text takes a backtracking engine long.
+use crate::engine::search;
+use crate::program::Program;
+use std::alloc::{AllocError, Global};
+
+/// The most steps of a search.
+const MOST_STEPS: usize = 300_000;
+
+/// So many steps from one position are many for a short text.
+const MANY_STEPS: usize = 200_000;
+
+/// How the steps of a search grow with the repetitions of a word.
+#[derive(Clone, Copy)]
+pub(crate) enum Growth {
+    Exponential,
+    Polynomial,
+}
+
+/// A text in which a word is repeated.
+#[derive(Clone, Copy)]
+pub(crate) struct RepeatedText<'t> {
+    pub(crate) before: &'t [char],
+    pub(crate) word: &'t [char],
+    pub(crate) after: &'t [char],
+}
+
+impl Growth {
+    /// How often the word is repeated in one search and the next ones.
+    fn counts(self) -> [usize; 3] {
+        match self {
+            Growth::Exponential => [5, 8, 11],
+            Growth::Polynomial => [20, 40, 80],
+        }
+    }
+
+    /// How many times as many steps the next search takes, at least.
+    fn factor(self) -> usize {
+        match self {
+            Growth::Exponential => 6,
+            Growth::Polynomial => 3,
+        }
+    }
+}
+
+impl RepeatedText<'_> {
+    /// The text with so many repetitions.
+    fn repeated(self, alloc: Global, count: usize) -> Result<Vec<char>, AllocError> {
+        let mut text = Vec::new(alloc);
+        text.extend_from_slice(self.before)?;
+        for _ in 0..count {
+            text.extend_from_slice(self.word)?;
+        }
+        text.extend_from_slice(self.after)?;
+        Ok(text)
+    }
+}
+
+/// Whether a search for the program in the text takes a number of steps from one position that grows so. Adds the steps to
+/// `steps`.
+pub(crate) fn grows(
+    alloc: Global,
+    program: &Program,
+    text: RepeatedText<'_>,
+    growth: Growth,
+    steps: &mut usize,
+) -> Result<bool, AllocError> {
+    let mut least = MANY_STEPS;
+    for count in growth.counts() {
+        let searched = text.repeated(alloc, count)?;
+        let outcome = search(alloc, program, &searched, MOST_STEPS)?;
+        *steps = steps.saturating_add(outcome.steps);
+        if outcome.longest >= least {
+            return Ok(true);
+        }
+        if outcome.is_stopped {
+            return Ok(false);
+        }
+        least = outcome
+            .longest
+            .saturating_mul(growth.factor())
+            .min(MANY_STEPS);
+    }
+    Ok(false)
+}

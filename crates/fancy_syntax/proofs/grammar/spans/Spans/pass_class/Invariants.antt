@@ -1,0 +1,19 @@
+use Rattle.std.proofs.Common.{◌≡◌, ◌≤◌, chars, length, map}
+use denote.Text.{Utf8}
+use denote.Shadow.{shadow}
+use Rattle.fancy_lex.specs.TokenComments.{class_comments}
+use Rattle.fancy_grammar.specs.Trivia.{of_inner}
+use Rattle.fancy_syntax.specs.Log.{pass}
+use Rattle.fancy_syntax.specs.LogViews.{log_of}
+use Rattle.fancy_syntax.proofs.grammar.spans.Spans.pass_class.Given as goal
+
+abbrev pub invariant-loop-inside : goal.invariant-loop-inside
+invariant-loop-inside l = record {
+  text : shadow (Utf8 l.rest);
+  passed : pass (map of_inner (class_comments l.flags (chars l.text) l.end)) (log_of l.fn.self)
+      ≡ pass (map of_inner (class_comments l.flags (chars l.rest) l.end)) (log_of l.self);
+  within : length l.rest ≤ length l.text;
+}
+
+abbrev pub decreases-loop-inside : goal.decreases-loop-inside
+decreases-loop-inside l = length l.rest
