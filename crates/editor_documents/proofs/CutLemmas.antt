@@ -3,7 +3,7 @@ use Rattle.std.proofs.Common.{◌≡◌, ◌<◌, ◌≤◌, ◌+◌, ◌-◌, �
 use Rattle.std.proofs.Common.{if◌then◌else◌, ◌==◌, ◌||◌, nat_lt}
 use Rattle.std.specs.Str.{IsUtf8, IsCharBoundary}
 use Rattle.std.proofs.Math.Seq.{drop-append_seam}
-use Rattle.std.proofs.Math.Utf8.{encodes}
+use Rattle.std.proofs.Math.Utf8.{encode, encodes}
 use Rattle.std.proofs.lemmas.Bool.Decides.{nat_tests}
 use Rattle.std.proofs.lemmas.List.{take-append-drop, length-drop, length-take, get_or-drop}
 use Rattle.std.proofs.lemmas.Str.{encodes-chars, chars-append, IsUtf8-take, IsUtf8-drop}
@@ -83,9 +83,11 @@ line_end_is c t u h is = by_feed (c == code "\n") refl is where
 module _ (s a r : List ℕ) (u : IsUtf8 s) (v : IsUtf8 a) (w : IsUtf8 r) (is : chars s ≡ code "\r" ∷ chars a)
     (feeds : chars a ≡ code "\n" ∷ chars r) where
   after_return : s ≡ 13 ∷ a
+  unfolding encode
   after_return = first_bytes s a (code "\r") u v is
 
   after_feed : a ≡ 10 ∷ r
+  unfolding encode
   after_feed = first_bytes a r (code "\n") v w feeds
 
   both : s ≡ 13 ∷ 10 ∷ r
@@ -98,8 +100,8 @@ module _ (s a r : List ℕ) (u : IsUtf8 s) (v : IsUtf8 a) (w : IsUtf8 r) (is : c
       sym (ap (λ n. drop n s) at ∙ ap (drop 2) both)
 
   inside : (n : ℕ) → n ≡ 1 → (get_or s (n - 1) 0 ≡ 13 → get_or s n 0 ≡ 10 → ⊥) → ⊥
-  inside n e no =
-      no (ap (λ m. get_or s (m - 1) 0) e ∙ ap (λ t. get_or t 0 0) both) (ap (λ m. get_or s m 0) e ∙ ap (λ t. get_or t 1 0) both)
+  inside n e no_cut =
+      no_cut (ap (λ m. get_or s (m - 1) 0) e ∙ ap (λ t. get_or t 0 0) both) (ap (λ m. get_or s m 0) e ∙ ap (λ t. get_or t 1 0) both)
 
   both_near : (n : ℕ) → IsCut s n → n + length r < length s → n ≡ 0
   both_near n cut below =
@@ -177,3 +179,13 @@ module _ (s t : List ℕ) (k n : ℕ) (is : t ≡ drop k s) (within : k ≤ n) w
       by_test : (b : Bool) → nat_lt k n ≡ b → ⊥
       by_test true q = later q
       by_test false q = first q
+
+-- a text that is left where it may be cut, if a step leads past the other places
+pub last_cut : (s t : List ℕ) (n left after : ℕ) → t ≡ drop (length s - length t) s → left ≡ length s - n → left ≤ length t →
+    after < left → ((m : ℕ) → IsCut t m → m + after < length t → m ≡ 0) → IsCut s n → t ≡ drop n s
+last_cut s t n left after is so before below near cut =
+    let within : length s - length t ≤ n = omega (arith, so, before) in
+    let long : length t ≡ length s - (length s - length t) = ap length is ∙ length-drop (length s - length t) s in
+    let none : n - (length s - length t) ≡ 0 =
+    near (n - (length s - length t)) (cut_left s t (length s - length t) n is within cut) (omega (arith, so, before, below, long)) in
+    is ∙ ap (λ k. drop k s) (omega (arith, none, within))
