@@ -1,8 +1,9 @@
 -- Lines of known bytes: the header that is written is the one that is read.
-use Rattle.std.proofs.Common.{◌≡◌, ◌≢◌, ◌<◌, ◌≤◌, ◌+◌, ℕ, Bool, true, false, List, [], ◌∷◌, ◌++◌, ◌^◌, length, get_or, Option, Some, None, refl, sym, ap, ◌∙◌, arith, append_assoc}
+use Rattle.std.proofs.Common.{◌≡◌, ◌≢◌, ◌<◌, ◌≤◌, ℕ, suc, Bool, true, false, List, [], ◌∷◌, ◌++◌, ◌^◌, length, take, drop, get_or, Option, Some, None, refl, sym, ap, subst, ◌∙◌, arith, append_assoc}
 use Rattle.std.proofs.Common.{if◌then◌else◌, ◌==◌}
 use Rattle.std.specs.Prelude.{codes, decimal}
 use Rattle.std.specs.Io.KnownBytes.{Consumes}
+use Rattle.std.proofs.Math.Seq.{take-append_seam, drop-append_seam}
 use Rattle.std.proofs.lemmas.Bool.Decides.{nat_tests}
 use Rattle.std.proofs.lemmas.Fmt.{decimal_is_IsNumeral}
 use Rattle.std.proofs.lemmas.Str.Parse.{digit_at}
@@ -30,6 +31,38 @@ line_more (d ∷ l) c h k = (h.0, line_more l c h.1 k)
 pub line_front : (l m : List ℕ) → IsLine (l ++ m) → IsLine l
 line_front [] m h = tt
 line_front (d ∷ l) m h = (h.0, line_front l m h.1)
+
+-- a line that has not ended is longer by a byte
+module _ (old mid new : Option (List ℕ)) (l : List ℕ) (byte : ℕ) (line : IsLine l) (read : Consumes old mid l)
+    (next : Consumes mid new (byte ∷ [])) where
+  pub line_grown : (m : List ℕ) → byte ≢ code "\n" → m ≡ l ++ (byte ∷ []) → IsLine m × Consumes old new m
+  line_grown m no_feed is =
+      subst (λ t. IsLine t × Consumes old new t) (sym is)
+      (line_more l byte line no_feed, more_bytes old mid new l (byte ∷ []) read next)
+
+  -- LF after CR ends it
+  pub line_ended : (m : List ℕ) → byte ≡ code "\n" → l ≡ m ++ (code "\r" ∷ []) → IsLineRead old new m
+  line_ended m feed is = (
+    line_front m (code "\r" ∷ []) (subst IsLine is line),
+    subst (Consumes old new)
+        (ap (λ t. t ++ (byte ∷ [])) is ∙ append_assoc m (code "\r" ∷ []) (byte ∷ []) ∙ ap (λ c. m ++ (code "\r" ∷ c ∷ [])) feed)
+        (more_bytes old mid new l (byte ∷ []) read next),
+  )
+
+-- as many bytes as a message has are the message
+pub exactly : (new : Option (List ℕ)) (bytes message rest : List ℕ) → length bytes ≡ length message →
+    Consumes (Some (message ++ rest)) new bytes → (bytes ≡ message) × (new ≡ Some rest)
+exactly None bytes message rest long h = absurd h
+exactly (Some left) bytes message rest long h = (front, ap Some back) where
+  front : bytes ≡ message
+  front =
+      sym (take-append_seam bytes left) ∙ ap (take (length bytes)) (sym h) ∙ ap (λ n. take n (message ++ rest)) long
+      ∙ take-append_seam message rest
+
+  back : left ≡ rest
+  back =
+      sym (drop-append_seam bytes left) ∙ ap (drop (length bytes)) (sym h) ∙ ap (λ n. drop n (message ++ rest)) long
+      ∙ drop-append_seam message rest
 
 -- a text begins with one line
 one_line : (l m r s : List ℕ) → IsLine l → IsLine m → l ++ (13 ∷ 10 ∷ r) ≡ m ++ (13 ∷ 10 ∷ s) → (l ≡ m) × (r ≡ s)
@@ -63,7 +96,7 @@ digits_line (c ∷ l) h = (no_feed, digits_line l later) where
   no_feed e = let digit : 48 ≤ c = h 0 (omega arith) in omega arith
 
   later : (k : ℕ) → k < length l → 48 ≤ get_or l k 0
-  later k below = h (k + 1) (omega arith)
+  later k below = h (suc k) (omega arith)
 
 decimal_line : (n : ℕ) → n < 2 ^ 64 → IsLine (decimal n)
 decimal_line n h = digits_line (decimal n) (λ k below. (digit_at (decimal n) k (decimal_is_IsNumeral n h).0.1 below).0)
@@ -79,13 +112,14 @@ has_feed (c ∷ l) = if c == code "\n" then true else has_feed l
 no_feeds : (l : List ℕ) → has_feed l ≡ false → IsLine l
 unfolding has_feed
 no_feeds [] h = tt
-no_feeds (c ∷ l) h = by_test (c == code "\n") refl h where
+no_feeds (c ∷ l) h = by_test (c == code "\n") refl (no_feeds l) h where
   differs : (c == code "\n") ≡ false → c ≢ code "\n"
   differs q e = grind (arith, nat_tests)
 
-  by_test : (b : Bool) → (c == code "\n") ≡ b → (if b then true else has_feed l) ≡ false → (c ≢ code "\n") × IsLine l
-  by_test true q h = absurd (cc)
-  by_test false q h = (differs q, no_feeds l h)
+  by_test : (b : Bool) → (c == code "\n") ≡ b → (has_feed l ≡ false → IsLine l) → (if b then true else has_feed l) ≡ false →
+      (c ≢ code "\n") × IsLine l
+  by_test true q ih h = absurd (cc)
+  by_test false q ih h = (differs q, ih h)
 
 name_line : IsLine (codes "Content-Length: ")
 unfolding has_feed

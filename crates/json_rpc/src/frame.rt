@@ -106,7 +106,10 @@ fn read_header<R: Read>(alloc: Global, reader: &mut R) -> Result<Option<usize>, 
         }
         match header_line(&line) {
             HeaderLine::End => {
-                return length.map(Some).ok_or(FrameError::NoLength);
+                let Some(length) = length else {
+                    return Err(FrameError::NoLength);
+                };
+                return Ok(Some(length));
             }
             HeaderLine::Length(found) => length = Some(found),
             HeaderLine::Other => {}

@@ -1,5 +1,4 @@
 //! What a request asks about a document.
-use crate::document::Settings;
 use crate::method::Method;
 use crate::params;
 use crate::query::Query;
@@ -7,6 +6,7 @@ use editor_documents::position::{Encoding, Position, from_position};
 use fancy_syntax::span::Span;
 use json::Value;
 use json_rpc::error_code::ErrorCode;
+use pattern_documents::document::Settings;
 use std::alloc::AllocError;
 
 /// Why a request is refused.

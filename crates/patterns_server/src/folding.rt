@@ -1,9 +1,9 @@
 //! The groups of a document's patterns that have several lines, which an editor folds.
-use crate::document::{OpenDocument, Settings};
-use crate::ranges::{Located, Locator};
 use fancy_syntax::expr::Expr;
 use fancy_syntax::span::Span;
 use json::Writer;
+use pattern_documents::document::{OpenDocument, Settings};
+use pattern_documents::ranges::{Located, Locator};
 use pattern_files::entry::{Entry, Visitor};
 use pattern_reports::json_lines::fields::write_number;
 use patterns_program::edited::EditedPatterns;

@@ -1,5 +1,4 @@
 //! Names of groups, and new ones in their place.
-use crate::actions::{begin_changes, end_changes, write_edit};
 use crate::asked::Refused;
 use crate::query::ReadPattern;
 use fancy_syntax::expr::Expr;
@@ -8,6 +7,7 @@ use fancy_syntax::spanned::{SpannedNode, SpannedTree};
 use fancy_syntax::tree::ExprTree;
 use json::Writer;
 use json_rpc::error_code::ErrorCode;
+use pattern_documents::actions::{begin_changes, end_changes, write_edit};
 use patterns_program::edited::EditedPatterns;
 use patterns_text::error::RunError;
 use patterns_text::names::Names;

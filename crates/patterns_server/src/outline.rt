@@ -1,9 +1,9 @@
 //! The groups of a document's patterns, as an outline.
-use crate::document::{OpenDocument, Settings};
-use crate::ranges::{Located, Locator};
 use fancy_syntax::expr::Expr;
 use fancy_syntax::span::Span;
 use json::Writer;
+use pattern_documents::document::{OpenDocument, Settings};
+use pattern_documents::ranges::{Located, Locator};
 use pattern_files::entry::{Entry, Visitor};
 use pattern_reports::json_lines::fields::{write_number, write_text};
 use patterns_program::edited::EditedPatterns;

@@ -1,8 +1,6 @@
 //! What is asked about the part of a pattern at a position.
 use crate::asked::Refused;
-use crate::document::{OpenDocument, Settings};
 use crate::named::write_renamed;
-use crate::ranges::{Located, Locator, write_range};
 use class_meaning::characters_of;
 use editor_documents::cursor::Cursor;
 use fancy_lex::flags::Flags;
@@ -10,6 +8,8 @@ use fancy_syntax::expr::Expr;
 use fancy_syntax::span::Span;
 use fancy_syntax::spanned::{SpannedNode, SpannedTree};
 use json::Writer;
+use pattern_documents::document::{OpenDocument, Settings};
+use pattern_documents::ranges::{Located, Locator, write_range};
 use pattern_files::entry::{Entry, Visitor};
 use pattern_reports::json_lines::fields::{write_number, write_text};
 use patterns_listing::class_words::ClassWords;

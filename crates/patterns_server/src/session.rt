@@ -1,11 +1,7 @@
 //! What a client and the server have agreed on, the documents that are open, and what becomes of a message.
-use crate::actions::write_actions;
 use crate::asked::{About, Refused, WRONG_PARAMS, asked, offsets};
 use crate::capabilities::{encoding_of, write_capabilities};
-use crate::diagnostics::{diagnostics, no_diagnostics};
-use crate::document::{OpenDocument, Opened, Settings};
 use crate::folding::write_folds;
-use crate::formatting::write_formatted;
 use crate::method::Method;
 use crate::outline::write_symbols;
 use crate::params;
@@ -19,6 +15,10 @@ use json_rpc::error_code::ErrorCode;
 use json_rpc::frame::write_message;
 use json_rpc::message::{Id, Message};
 use json_rpc::reply::{begin_answer, begin_notification, finish, refusal};
+use pattern_documents::actions::write_actions;
+use pattern_documents::diagnostics::{diagnostics, no_diagnostics};
+use pattern_documents::document::{OpenDocument, Opened, Settings};
+use pattern_documents::formatting::write_formatted;
 use pattern_files::sources::System;
 use pattern_reports::json_lines::fields::{write_number, write_text};
 use patterns_config::choices::Choices;

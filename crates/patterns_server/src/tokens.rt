@@ -1,12 +1,12 @@
 //! The kinds of the parts of patterns, by which an editor colours them.
-use crate::document::{OpenDocument, Settings};
-use crate::ranges::{Located, Locator};
 use editor_documents::position::Position;
 use fancy_syntax::expr::Expr;
 use fancy_syntax::span::Span;
 use fancy_syntax::spanned::{SpannedNode, SpannedTree};
 use fancy_syntax::trivium::{Trivium, TriviumKind};
 use json::Writer;
+use pattern_documents::document::{OpenDocument, Settings};
+use pattern_documents::ranges::{Located, Locator};
 use pattern_files::entry::{Entry, Visitor};
 use patterns_program::edited::EditedPatterns;
 use patterns_text::error::RunError;

@@ -44,7 +44,7 @@ impl Visitor for FormatWalk<'_> {
 }
 
 /// Writes the edits that format the patterns of a document, or of a part of it, as a list.
-pub(crate) fn write_formatted(
+pub fn write_formatted(
     given: Settings<'_>,
     document: &OpenDocument,
     part: Option<Span>,

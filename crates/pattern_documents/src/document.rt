@@ -20,17 +20,17 @@ use std::alloc::{AllocError, Global};
 
 /// What is given for all documents.
 #[derive(Clone, Copy)]
-pub(crate) struct Settings<'a> {
-    pub(crate) alloc: Global,
-    pub(crate) choices: Choices<'a>,
+pub struct Settings<'a> {
+    pub alloc: Global,
+    pub choices: Choices<'a>,
     /// What positions are counted in.
-    pub(crate) encoding: Encoding,
+    pub encoding: Encoding,
 }
 
 /// A document, and how it has patterns.
 #[derive(Drop)]
-pub(crate) struct DocumentSource {
-    pub(crate) document: Document,
+pub struct DocumentSource {
+    pub document: Document,
     /// The path of its file; of a document without one the name of the standard input.
     name: String,
     /// Its configuration.
@@ -39,9 +39,9 @@ pub(crate) struct DocumentSource {
 
 /// A document that is open.
 #[derive(Drop)]
-pub(crate) struct OpenDocument {
-    pub(crate) source: DocumentSource,
-    pub(crate) patterns: EditedPatterns,
+pub struct OpenDocument {
+    pub source: DocumentSource,
+    pub patterns: EditedPatterns,
     /// Its patterns, with the reports on them, as they were last sent.
     pub(crate) known: Vec<KnownPattern>,
 }
@@ -88,7 +88,7 @@ fn plan_of<S: System>(
 
 impl DocumentSource {
     /// Its text.
-    pub(crate) fn text(&self) -> &str {
+    pub fn text(&self) -> &str {
         self.document.text.as_str()
     }
 
@@ -127,7 +127,7 @@ impl DocumentSource {
     }
 
     /// Visits its patterns, which are parsed under these flags.
-    pub(crate) fn visit<V: Visitor>(
+    pub fn visit<V: Visitor>(
         &self,
         given: Settings<'_>,
         flags: u32,
@@ -162,16 +162,16 @@ impl DocumentSource {
 
 /// What a client opens.
 #[derive(Clone, Copy)]
-pub(crate) struct Opened<'a> {
-    pub(crate) uri: &'a str,
-    pub(crate) language: &'a str,
-    pub(crate) version: i64,
-    pub(crate) text: &'a str,
+pub struct Opened<'a> {
+    pub uri: &'a str,
+    pub language: &'a str,
+    pub version: i64,
+    pub text: &'a str,
 }
 
 impl OpenDocument {
     /// A document that is opened. What is wrong with its configuration is written to `err`.
-    pub(crate) fn open<S: System>(
+    pub fn open<S: System>(
         given: Settings<'_>,
         opened: Opened<'_>,
         system: &S,
@@ -202,7 +202,7 @@ impl OpenDocument {
     }
 
     /// Reads its configuration again. What is wrong with that is written to `err`.
-    pub(crate) fn configure<S: System>(
+    pub fn configure<S: System>(
         &mut self,
         given: Settings<'_>,
         system: &S,

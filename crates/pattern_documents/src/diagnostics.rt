@@ -267,7 +267,7 @@ fn write_reports(
 }
 
 /// The notification of what is reported on a document.
-pub(crate) fn diagnostics(
+pub fn diagnostics(
     given: Settings<'_>,
     uri: &str,
     document: &mut OpenDocument,
@@ -284,6 +284,6 @@ pub(crate) fn diagnostics(
 }
 
 /// The notification that nothing is reported on a document that is closed.
-pub(crate) fn no_diagnostics(alloc: Global, uri: &str) -> Result<Vec<u8>, AllocError> {
+pub fn no_diagnostics(alloc: Global, uri: &str) -> Result<Vec<u8>, AllocError> {
     end_reports(begin_reports(alloc, uri, None)?)
 }

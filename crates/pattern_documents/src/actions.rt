@@ -1,4 +1,4 @@
-//! Fixes as code actions: one by one, and all of a rule in the document.
+//! Code actions: fixes, one by one and all of a rule in the document, and comments that silence a rule in a pattern.
 use crate::document::{OpenDocument, Settings};
 use crate::ranges::{Located, Locator, touches};
 use fancy_syntax::span::Span;
@@ -14,7 +14,7 @@ use source_literals::replaced::Replacement;
 use std::alloc::{AllocError, Global};
 
 /// Writes the edit that makes a pattern of a document another one.
-pub(crate) fn write_edit(
+pub fn write_edit(
     writer: &mut Writer,
     located: Located<'_, '_>,
     part: &Replacement,
@@ -27,7 +27,7 @@ pub(crate) fn write_edit(
 }
 
 /// Begins a change of a workspace: the edits of this document are to be written next.
-pub(crate) fn begin_changes(writer: &mut Writer, uri: &str) -> Result<(), AllocError> {
+pub fn begin_changes(writer: &mut Writer, uri: &str) -> Result<(), AllocError> {
     writer.begin_object()?;
     writer.key("changes")?;
     writer.begin_object()?;
@@ -36,7 +36,7 @@ pub(crate) fn begin_changes(writer: &mut Writer, uri: &str) -> Result<(), AllocE
 }
 
 /// Ends a change of a workspace.
-pub(crate) fn end_changes(writer: &mut Writer) -> Result<(), AllocError> {
+pub fn end_changes(writer: &mut Writer) -> Result<(), AllocError> {
     writer.end_array()?;
     writer.end_object()?;
     writer.end_object()
@@ -68,7 +68,12 @@ fn with_fix(alloc: Global, pattern: &str, fix: &PartText) -> Result<Option<Strin
     Ok(Some(format!(in alloc; "{before}{}{after}", fix.text)?))
 }
 
-/// Writes the actions that fix single reports, and notes their rules.
+/// The pattern after a comment that silences the rule in it.
+fn with_silence(alloc: Global, pattern: &str, rule: Rule) -> Result<String, AllocError> {
+    format!(in alloc; "(?#patterns: allow {}){pattern}", rule.name())
+}
+
+/// Writes the actions on single reports, and notes the rules of those that can be fixed.
 #[derive(Drop)]
 struct ActionWalk<'d> {
     alloc: Global,
@@ -82,24 +87,66 @@ struct ActionWalk<'d> {
 }
 
 impl ActionWalk<'_> {
-    /// Writes the action that fixes the report, if there is one.
-    fn write(&mut self, located: Located<'_, '_>, report: &Report) -> Result<(), RunError> {
-        let (Some(fix), Some(rule)) = (&report.fix, report.rule) else {
+    /// Writes the action that makes a pattern this one, if it can.
+    fn write(
+        &mut self,
+        located: Located<'_, '_>,
+        title: &str,
+        text: &str,
+    ) -> Result<bool, RunError> {
+        let Some(part) = self.patterns.fixed_to(located.entry, text)? else {
+            return Ok(false);
+        };
+        begin_action(self.writer, title, self.uri)?;
+        write_edit(self.writer, located, &part)?;
+        end_action(self.writer)?;
+        Ok(true)
+    }
+
+    /// Writes the action that fixes the report of the rule, if there is one.
+    fn write_fix(
+        &mut self,
+        located: Located<'_, '_>,
+        report: &Report,
+        rule: Rule,
+    ) -> Result<(), RunError> {
+        let Some(fix) = &report.fix else {
             return Ok(());
         };
-        let entry = located.entry;
-        let Some(text) = with_fix(self.alloc, entry.pattern, fix)? else {
-            return Ok(());
-        };
-        let Some(part) = self.patterns.fixed_to(entry, text.as_str())? else {
+        let Some(text) = with_fix(self.alloc, located.entry.pattern, fix)? else {
             return Ok(());
         };
         let title = format!(in self.alloc; "Fix: {} [{}]", report.message, rule.name())?;
-        begin_action(self.writer, title.as_str(), self.uri)?;
-        write_edit(self.writer, located, &part)?;
-        end_action(self.writer)?;
-        if !self.rules.contains(&rule) {
+        let is_written = self.write(located, title.as_str(), text.as_str())?;
+        if is_written && !self.rules.contains(&rule) {
             self.rules.push(rule)?;
+        }
+        Ok(())
+    }
+
+    /// Writes the action that silences the rule in the pattern.
+    fn write_silence(&mut self, located: Located<'_, '_>, rule: Rule) -> Result<(), RunError> {
+        let text = with_silence(self.alloc, located.entry.pattern, rule)?;
+        let title = format!(in self.alloc; "Allow [{}] in this pattern", rule.name())?;
+        self.write(located, title.as_str(), text.as_str())?;
+        Ok(())
+    }
+
+    /// Writes the actions on the reports that touch the part.
+    fn write_all(&mut self, located: Located<'_, '_>, reports: &[Report]) -> Result<(), RunError> {
+        let mut silenced = Vec::new(self.alloc);
+        for report in reports {
+            let Some(rule) = report.rule else {
+                continue;
+            };
+            if !touches(self.part, located.bytes(report.span)) {
+                continue;
+            }
+            self.write_fix(located, report, rule)?;
+            if !silenced.contains(&rule) {
+                silenced.push(rule)?;
+                self.write_silence(located, rule)?;
+            }
         }
         Ok(())
     }
@@ -112,12 +159,7 @@ impl Visitor for ActionWalk<'_> {
             return Ok(());
         }
         let reports = self.patterns.reports(entry)?;
-        for report in &reports {
-            if touches(self.part, located.bytes(report.span)) {
-                self.write(located, report)?;
-            }
-        }
-        Ok(())
+        self.write_all(located, &reports)
     }
 }
 
@@ -165,7 +207,7 @@ fn write_fix_of_rule(
 }
 
 /// Writes the actions for a part of a document, as a list.
-pub(crate) fn write_actions(
+pub fn write_actions(
     given: Settings<'_>,
     uri: &str,
     document: &mut OpenDocument,

@@ -11,7 +11,7 @@ use std::alloc::AllocError;
 
 /// Goes through the text of a document from pattern to pattern.
 #[derive(Clone, Copy)]
-pub(crate) struct Locator<'d> {
+pub struct Locator<'d> {
     cursor: Cursor<'d>,
     /// How many bytes are before it.
     offset: usize,
@@ -19,7 +19,7 @@ pub(crate) struct Locator<'d> {
 
 impl<'d> Locator<'d> {
     /// Before the text.
-    pub(crate) fn new(encoding: Encoding, text: &'d str) -> Locator<'d> {
+    pub fn new(encoding: Encoding, text: &'d str) -> Locator<'d> {
         Locator {
             cursor: Cursor::start(encoding, text),
             offset: 0,
@@ -27,7 +27,7 @@ impl<'d> Locator<'d> {
     }
 
     /// Goes on to the pattern of an entry, and returns where that is.
-    pub(crate) fn locate<'s>(&mut self, entry: Entry<'s>) -> Located<'d, 's> {
+    pub fn locate<'s>(&mut self, entry: Entry<'s>) -> Located<'d, 's> {
         let start = entry.span.start;
         let bytes = start.saturating_sub(self.offset);
         self.cursor = self.cursor.after(bytes);
@@ -41,15 +41,15 @@ impl<'d> Locator<'d> {
 
 /// A pattern of a document.
 #[derive(Clone, Copy)]
-pub(crate) struct Located<'d, 's> {
+pub struct Located<'d, 's> {
     /// Where it begins.
     cursor: Cursor<'d>,
-    pub(crate) entry: Entry<'s>,
+    pub entry: Entry<'s>,
 }
 
 impl Located<'_, '_> {
     /// Where it begins.
-    pub(crate) fn start(self) -> Position {
+    pub fn start(self) -> Position {
         self.cursor.position()
     }
 
@@ -81,7 +81,7 @@ impl Located<'_, '_> {
     }
 
     /// How many bytes of it are before the byte offset of its document.
-    pub(crate) fn offset(self, offset: usize) -> usize {
+    pub fn offset(self, offset: usize) -> usize {
         let Entry {
             contents,
             pattern,
@@ -97,14 +97,14 @@ impl Located<'_, '_> {
     }
 
     /// Where the span of it starts and ends.
-    pub(crate) fn positions(self, span: Span) -> (Position, Position) {
+    pub fn positions(self, span: Span) -> (Position, Position) {
         let start = self.cursor.after(self.inside(span.start));
         let end = self.cursor.after(self.inside(span.end));
         (start.position(), end.position())
     }
 
     /// Writes the range of the span of it.
-    pub(crate) fn write_range(self, writer: &mut Writer, span: Span) -> Result<(), AllocError> {
+    pub fn write_range(self, writer: &mut Writer, span: Span) -> Result<(), AllocError> {
         let (start, end) = self.positions(span);
         write_range(writer, start, end)
     }
@@ -143,11 +143,7 @@ fn write_position(writer: &mut Writer, position: Position) -> Result<(), AllocEr
 }
 
 /// Writes a range.
-pub(crate) fn write_range(
-    writer: &mut Writer,
-    start: Position,
-    end: Position,
-) -> Result<(), AllocError> {
+pub fn write_range(writer: &mut Writer, start: Position, end: Position) -> Result<(), AllocError> {
     writer.begin_object()?;
     writer.key("start")?;
     write_position(writer, start)?;
