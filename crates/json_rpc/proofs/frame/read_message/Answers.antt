@@ -11,4 +11,5 @@ returns g c message rest small e =
     (e ∙ ap Some (append_assoc (header (length message)) message rest)) in
     let long : length c.read_exact.new.buf ≡ c.in-Some.length = search rules in
     let both = exactly _ _ message rest (long ∙ header_read.0) (rw header_read.1 at c.in_ok-read_exact.ensures.bytes) in
-    ?
+    let whole : c.in_ok-message.message.len ≡ length c.read_exact.new.buf = c.in_ok-message.ensures.len ∙ sym long in
+    (ap (λ n. take n _) whole ∙ take-append_seam c.read_exact.new.buf _ ∙ both.0, both.1)
