@@ -1,6 +1,6 @@
 -- Where a text may be cut: at no place inside its first character, or inside the end of a line that it begins with.
 use Rattle.std.proofs.Common.{◌≡◌, ◌<◌, ◌≤◌, ◌+◌, ◌-◌, ℕ, Bool, true, false, List, [], ◌∷◌, ◌++◌, length, take, drop, get_or, chars, Some, refl, sym, ap, subst, ◌∙◌, ◌⊎◌, inl, inr, arith}
-use Rattle.std.proofs.Common.{if◌then◌else◌, ◌==◌, ◌||◌, nat_lt}
+use Rattle.std.proofs.Common.{if◌then◌else◌, ◌==◌, nat_lt}
 use Rattle.std.specs.Str.{IsUtf8, IsCharBoundary}
 use Rattle.std.proofs.Math.Seq.{drop-append_seam}
 use Rattle.std.proofs.Math.Utf8.{encode, encodes}

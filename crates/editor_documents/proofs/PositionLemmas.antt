@@ -1,12 +1,11 @@
 -- Steps of the definitions of positions, by the tests of the code.
-use Rattle.std.proofs.Common.{◌≡◌, ◌≢◌, ◌<◌, ◌≤◌, ℕ, ◌-◌, zero, suc, Bool, true, false, [], ◌∷◌, Option, Some, None, refl, ap, sym, ◌∙◌, arith}
+use Rattle.std.proofs.Common.{◌≡◌, ◌≢◌, ◌<◌, ◌≤◌, ℕ, ◌-◌, zero, suc, Bool, true, false, [], ◌∷◌, Some, None, refl, ap, sym, ◌∙◌, arith}
 use Rattle.std.proofs.Common.{if◌then◌else◌, ◌==◌, ◌||◌, nat_le}
 use Rattle.std.specs.Prelude.{option_and_then}
 use Rattle.std.proofs.lemmas.Bool.Decides.{nat_tests}
 use Prim.Native.Char.{code}
 use Rattle.editor_documents.specs.Position.{Text, units, ends_line, after_line_feed, next_line, from_line, from_character}
 use Rattle.editor_documents.specs.declared.position.Encoding.{Encoding}
-use Rattle.editor_documents.specs.declared.position.Encoding.TheVariants.{Utf8, Utf16}
 
 -- ---- lines
 

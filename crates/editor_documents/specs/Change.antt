@@ -1,5 +1,5 @@
 -- Changes of texts.
-use Rattle.std.specs.Prelude.{◌≡◌, ℕ, ◌-◌, List, [], ◌∷◌, ◌++◌, length, take, chars, Option, Some, None, option_and_then, if◌then◌else◌}
+use Rattle.std.specs.Prelude.{◌≡◌, ◌-◌, List, [], ◌∷◌, ◌++◌, length, take, chars, Option, Some, None, option_and_then, if◌then◌else◌}
 use Rattle.editor_documents.specs.Position.{Text, from_position, is_after}
 use Rattle.editor_documents.specs.declared.position.Encoding.{Encoding}
 use Rattle.editor_documents.specs.declared.change.Range.{Range}

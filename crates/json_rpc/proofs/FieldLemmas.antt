@@ -1,5 +1,5 @@
 -- The field that says how many bytes a message has, as a line that is read.
-use Rattle.std.proofs.Common.{◌≡◌, ◌<◌, ◌≤◌, ◌-◌, ◌^◌, ℕ, List, [], ◌∷◌, ◌++◌, length, get_or, Option, Some, Result, Ok, ◌⊎◌, inl, inr, refl, sym, ap, ◌∙◌, arith, append-nil, rules}
+use Rattle.std.proofs.Common.{◌≡◌, ◌<◌, ◌-◌, ◌^◌, ℕ, List, [], ◌∷◌, ◌++◌, length, Option, Some, ◌⊎◌, inl, inr, sym, ap, ◌∙◌, arith, append-nil, rules}
 use Rattle.std.specs.Prelude.{codes, decimal}
 use Rattle.std.proofs.Common.{◌==◌}
 use Rattle.std.specs.List.{after_first}

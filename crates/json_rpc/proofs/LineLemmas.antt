@@ -49,6 +49,9 @@ module _ (old mid new : Option (List ℕ)) (l : List ℕ) (byte : ℕ) (line : I
         (more_bytes old mid new l (byte ∷ []) read next),
   )
 
+pub taken : (xs ys : List ℕ) (n : ℕ) → n ≡ length xs → take n (xs ++ ys) ≡ xs
+taken xs ys n long = ap (λ k. take k (xs ++ ys)) long ∙ take-append_seam xs ys
+
 -- as many bytes as a message has are the message
 pub exactly : (new : Option (List ℕ)) (bytes message rest : List ℕ) → length bytes ≡ length message →
     Consumes (Some (message ++ rest)) new bytes → (bytes ≡ message) × (new ≡ Some rest)

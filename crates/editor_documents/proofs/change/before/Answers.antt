@@ -1,4 +1,4 @@
-use Rattle.std.proofs.Common.{arith, sym, ◌∙◌}
+use Rattle.std.proofs.Common.{arith, sym}
 use Rattle.editor_documents.proofs.TextLemmas.{cut_le, cut_boundary, cut_front, before_is}
 use Rattle.editor_documents.proofs.change.before.Goals as goal
 

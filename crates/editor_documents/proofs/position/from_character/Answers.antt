@@ -1,4 +1,4 @@
-use Rattle.std.proofs.Common.{rules, ◌≡◌, ◌<◌, ◌-◌, chars, ap, arith, sym, ◌∙◌}
+use Rattle.std.proofs.Common.{rules, ◌<◌, chars, ap, arith, sym, ◌∙◌}
 use Rattle.editor_documents.specs.Position as spec
 use Rattle.editor_documents.proofs.PositionLemmas.{at_start, at_end, at_line_end, past_character, inside_character}
 use Rattle.editor_documents.proofs.position.from_character.Goals as goal

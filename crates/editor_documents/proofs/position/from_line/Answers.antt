@@ -1,4 +1,4 @@
-use Rattle.std.proofs.Common.{rules, ◌≡◌, ap, ◌∙◌, ◌-◌}
+use Rattle.std.proofs.Common.{rules, ap, ◌∙◌, ◌-◌}
 use Rattle.std.specs.Prelude.{option_and_then}
 use Rattle.editor_documents.specs.Position as spec
 use Rattle.editor_documents.proofs.PositionLemmas.{first_line, next_lines}

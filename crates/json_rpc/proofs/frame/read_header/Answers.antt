@@ -1,4 +1,4 @@
-use Rattle.std.proofs.Common.{rules, ◌≡◌, Some, sym, ap, ◌∙◌}
+use Rattle.std.proofs.Common.{rules}
 use Rattle.json_rpc.specs.Header.{IsLineRead}
 use Rattle.json_rpc.proofs.FieldLemmas.{after_field, no_other, at_end}
 use Rattle.json_rpc.proofs.frame.read_header.Goals.{in-Length, in-Other}

@@ -1,5 +1,4 @@
-use Rattle.std.proofs.Common.{rules, ◌≡◌, ◌∷◌, [], ◌++◌, Some, ap, ◌∙◌}
-use Rattle.std.specs.Io.KnownBytes.{Consumes}
+use Rattle.std.proofs.Common.{rules, ◌≡◌, Some}
 use Rattle.json_rpc.proofs.LineLemmas.{line_grown, line_ended}
 use Rattle.json_rpc.proofs.frame.read_line.Goals as goal
 

@@ -1,7 +1,6 @@
-use Rattle.std.proofs.Common.{rules, ◌≡◌, ◌++◌, List, ℕ, Some, length, take, sym, ap, ◌∙◌, arith, append_assoc}
-use Rattle.std.proofs.Math.Seq.{take-append_seam}
+use Rattle.std.proofs.Common.{rules, ◌≡◌, ◌++◌, Some, length, sym, ap, ◌∙◌, append_assoc}
 use Rattle.json_rpc.specs.Header.{header}
-use Rattle.json_rpc.proofs.LineLemmas.{exactly}
+use Rattle.json_rpc.proofs.LineLemmas.{exactly, taken}
 use Rattle.json_rpc.proofs.frame.read_message.Goals as goal
 
 pub returns : goal.returns
@@ -12,4 +11,4 @@ returns g c message rest small e =
     let long : length c.read_exact.new.buf ≡ c.in-Some.length = search rules in
     let both = exactly _ _ message rest (long ∙ header_read.0) (rw header_read.1 at c.in_ok-read_exact.ensures.bytes) in
     let whole : c.in_ok-message.message.len ≡ length c.read_exact.new.buf = c.in_ok-message.ensures.len ∙ sym long in
-    (ap (λ n. take n _) whole ∙ take-append_seam c.read_exact.new.buf _ ∙ both.0, both.1)
+    (taken c.read_exact.new.buf _ _ whole ∙ both.0, both.1)
