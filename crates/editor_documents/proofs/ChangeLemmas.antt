@@ -1,5 +1,5 @@
 -- The text from a position on is an end of the text; changes one after another.
-use Rattle.std.proofs.Common.{◌≡◌, ℕ, zero, suc, Bool, true, false, List, [], ◌∷◌, ◌++◌, Option, Some, None, refl, ap, sym, subst, ◌∙◌, append_assoc, ◌<◌, ◌≤◌, ◌+◌, length, drop, get_or}
+use Rattle.std.proofs.Common.{◌≡◌, ℕ, zero, suc, Bool, true, false, List, [], ◌∷◌, ◌++◌, Option, Some, None, refl, ap, sym, subst, ◌∙◌, append_assoc, ◌<◌, ◌≤◌, ◌+◌, length, drop, get_or, arith}
 use Rattle.std.proofs.lemmas.List.{drop_more, drop_all}
 use Rattle.std.proofs.Common.{if◌then◌else◌, ◌==◌, ◌||◌, nat_le, ◌-◌}
 use Rattle.std.specs.Prelude.{option_and_then, IfSome}
@@ -86,6 +86,13 @@ module _ (e : Encoding) (t : Text) (change : Change) (changes : List Change) whe
   unfolding with_changes
   wrong_change is = ap (option_and_then (λ changed. with_changes e changed changes)) is
 
+module _ (e : Encoding) (t : Text) (changes : List Change) (first : Change) (later : List Change) (is : changes ≡ first ∷ later) where
+  pub first_of : (u : Text) → with_change e t first ≡ Some u → with_changes e t changes ≡ with_changes e u later
+  first_of u made = ap (with_changes e t) is ∙ first_change e t first later u made
+
+  pub wrong_first : with_change e t first ≡ None → with_changes e t changes ≡ None
+  wrong_first wrong = ap (with_changes e t) is ∙ wrong_change e t first later wrong
+
 -- the changes from an index on
 module _ (e : Encoding) (changes : List Change) (i : ℕ) (change : Change) (t v : Text) (all : Option Text)
     (within : i < length changes) (is : change ≡ get_or changes i change) (same : v ≡ t)
@@ -105,3 +112,7 @@ pub last_change : (e : Encoding) (changes : List Change) (i : ℕ) (t : Text) (a
     all ≡ with_changes e t (drop i changes) → all ≡ Some t
 last_change e changes i t all past left =
     left ∙ ap (with_changes e t) (drop_all i changes past) ∙ no_change e t
+
+pub no_changes : (e : Encoding) (changes : List Change) (t u : Text) → length changes ≡ 0 → t ≡ u → with_changes e t changes ≡ Some u
+no_changes e changes t u none same =
+    last_change e changes 0 u _ (omega (arith, none)) (ap (λ v. with_changes e v changes) same)

@@ -119,8 +119,11 @@ pub fn with_changes(
     ensures position { IsErrOf result ChangeError.Position
         → spec.with_changes encoding (chars text.now) changes.now ≡ None }
 {
-    let mut changed = String::from_str(alloc, text)?;
-    for change in changes {
+    let Some((first, later)) = changes.split_first() else {
+        return Ok(String::from_str(alloc, text)?);
+    };
+    let mut changed = with_change(alloc, encoding, text, *first)?;
+    for change in later {
         changed = with_change(alloc, encoding, changed.as_str(), *change)?;
     }
     Ok(changed)

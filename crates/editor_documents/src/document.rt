@@ -1,11 +1,12 @@
 //! Documents that are open.
-ghost use Rattle.std.specs.Prelude.{◌≡◌, chars, string_bytes, Some, None, OnOk, OnErr, IsErrOf};
+ghost use Rattle.std.specs.Prelude.{◌≡◌, chars, string_bytes, Some, None, IfOk, OnOk, OnErr, IsErrOf};
 ghost use Rattle.editor_documents.specs.Change.{with_changes};
 ghost use Rattle.editor_documents.specs.declared.change.ChangeError.{ChangeError};
 
 use crate::change::{Change, ChangeError, with_changes};
 use crate::position::Encoding;
 use std::alloc::Global;
+use std::mem;
 
 /// A document that is open.
 #[derive(Debug, Drop)]
@@ -18,24 +19,26 @@ pub struct Document {
 }
 
 impl Document {
-    /// Makes the changes, one after another, which lead to this version. After an error the document is as it was.
+    /// Makes the changes, one after another, which lead to this version, and returns the text before them. After an error the
+    /// document is as it was.
     pub fn change(
         &mut self,
         alloc: Global,
         encoding: Encoding,
         version: i64,
         changes: &[Change<'_>],
-    ) -> Result<(), ChangeError>
+    ) -> Result<String, ChangeError>
         ensures ok { OnOk result (with_changes encoding (chars (string_bytes self.old.text)) changes.now
             ≡ Some (chars (string_bytes self.new.text))) }
+        ensures before { IfOk result (λ before. before ≡ self.old.text) }
         ensures version { OnOk result (self.new.version ≡ version) }
         ensures language { self.new.language ≡ self.old.language }
         ensures position { IsErrOf result ChangeError.Position
             → with_changes encoding (chars (string_bytes self.old.text)) changes.now ≡ None }
         ensures err { OnErr result (self.new ≡ self.old) }
     {
-        self.text = with_changes(alloc, encoding, self.text.as_str(), changes)?;
+        let text = with_changes(alloc, encoding, self.text.as_str(), changes)?;
         self.version = version;
-        Ok(())
+        Ok(mem::replace(&mut self.text, text))
     }
 }

@@ -1,6 +1,6 @@
 //! What is reported on the patterns of a document.
 use crate::document::{OpenDocument, Settings};
-use crate::known::{KnownPattern, KnownPatterns};
+use crate::known::KnownPatterns;
 use crate::ranges::{Located, Locator, offset_of_column, write_range};
 use editor_documents::cursor::Cursor;
 use editor_documents::position::Position;
@@ -136,7 +136,7 @@ struct ReportWalk<'d> {
     patterns: &'d mut EditedPatterns,
     /// The patterns before the last change, and those that are there now.
     old: KnownPatterns,
-    new: Vec<KnownPattern>,
+    new: KnownPatterns,
     /// How many reports are written.
     count: usize,
     writer: Writer,
@@ -158,22 +158,21 @@ impl ReportWalk<'_> {
         Ok(())
     }
 
-    /// The pattern of an entry with its reports, which are known or are now found.
-    fn known(&mut self, entry: Entry<'_>) -> Result<KnownPattern, RunError> {
-        if let Some(known) = self.old.take(entry)? {
-            return Ok(known);
+    /// The reports on the pattern of an entry, which are known or are now found.
+    fn reports(&mut self, entry: Entry<'_>) -> Result<Vec<Report>, RunError> {
+        match self.old.take(entry)? {
+            Some(known) => Ok(known),
+            None => self.patterns.reports(entry),
         }
-        let reports = self.patterns.reports(entry)?;
-        Ok(KnownPattern::new(self.given.alloc, entry, reports)?)
     }
 }
 
 impl Visitor for ReportWalk<'_> {
     fn pattern(&mut self, entry: Entry<'_>) -> Result<(), RunError> {
         let located = self.locator.locate(entry);
-        let known = self.known(entry)?;
-        self.write(located, &known.reports)?;
-        self.new.push(known)?;
+        let reports = self.reports(entry)?;
+        self.write(located, &reports)?;
+        self.new.push(entry, reports)?;
         if self.count >= MAX_REPORTS {
             let message = format!(in self.given.alloc;
                 "no more than {MAX_REPORTS} reports are shown"
@@ -237,7 +236,7 @@ fn write_reports(
 ) -> Result<Writer, RunError> {
     let alloc = given.alloc;
     let flags = document.patterns.flags;
-    let old = mem::replace(&mut document.known, Vec::new(alloc));
+    let old = mem::replace(&mut document.known, KnownPatterns::none(alloc));
     let text = document.source.text();
     let mut walk = ReportWalk {
         given,
@@ -245,8 +244,8 @@ fn write_reports(
         text,
         locator: Locator::new(given.encoding, text),
         patterns: &mut document.patterns,
-        old: KnownPatterns::new(alloc, old),
-        new: Vec::new(alloc),
+        old,
+        new: KnownPatterns::none(alloc),
         count: 0,
         writer,
     };
@@ -275,6 +274,7 @@ pub fn diagnostics(
     let version = document.source.document.version;
     let mut writer = begin_reports(given.alloc, uri, Some(version))?;
     if document.source.text().len() > MAX_BYTES {
+        document.known = KnownPatterns::none(given.alloc);
         let start = Cursor::start(given.encoding, "").position();
         write_notice(&mut writer, start, Severity::Notice, TOO_LARGE)?;
     } else {

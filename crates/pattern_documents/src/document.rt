@@ -1,6 +1,7 @@
 //! Documents that are open.
-use crate::known::KnownPattern;
+use crate::known::KnownPatterns;
 use crate::uri::path_of;
+use editor_documents::change::{Change, ChangeError};
 use editor_documents::document::Document;
 use editor_documents::position::Encoding;
 use pattern_files::entry::Visitor;
@@ -43,7 +44,7 @@ pub struct OpenDocument {
     pub source: DocumentSource,
     pub patterns: EditedPatterns,
     /// Its patterns, with the reports on them, as they were last sent.
-    pub(crate) known: Vec<KnownPattern>,
+    pub(crate) known: KnownPatterns,
 }
 
 /// How a grammar of TextMate has patterns.
@@ -197,8 +198,28 @@ impl OpenDocument {
         Ok(OpenDocument {
             source,
             patterns,
-            known: Vec::new(alloc),
+            known: KnownPatterns::none(alloc),
         })
+    }
+
+    /// Makes the changes, one after another, which lead to this version. After an error the document is as it was.
+    pub fn change(
+        &mut self,
+        given: Settings<'_>,
+        version: i64,
+        changes: &[Change<'_>],
+    ) -> Result<(), ChangeError> {
+        let Settings {
+            alloc,
+            encoding,
+            ..
+        } = given;
+        let before = self
+            .source
+            .document
+            .change(alloc, encoding, version, changes)?;
+        self.known.change(before);
+        Ok(())
     }
 
     /// Reads its configuration again. What is wrong with that is written to `err`.
@@ -210,7 +231,7 @@ impl OpenDocument {
     ) -> Result<(), RunError> {
         self.source.plan = plan_of(given, self.source.name.as_str(), system, err)?;
         self.patterns = self.source.patterns(given)?;
-        self.known = Vec::new(given.alloc);
+        self.known = KnownPatterns::none(given.alloc);
         Ok(())
     }
 }

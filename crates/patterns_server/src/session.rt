@@ -297,26 +297,18 @@ impl<'a, S: System, W: Write> Session<'a, S, W> {
 
     /// Changes a document. If the changes cannot be made, that is shown, and the document stays as it was.
     fn change(&mut self, params: Option<&Value<'_>>) -> Result<(), RunError> {
-        let Settings {
-            alloc,
-            encoding,
-            ..
-        } = self.given;
+        let given = self.given;
         let Some(uri) = params::uri(params) else {
             return Ok(());
         };
         let Some(document) = self.documents.get_mut(uri) else {
             return Ok(());
         };
-        let Some(changes) = params::changes(alloc, params)? else {
+        let Some(changes) = params::changes(given.alloc, params)? else {
             return self.show("patterns: a change of a document is no change of the protocol");
         };
         let version = version_of(params);
-        match document
-            .source
-            .document
-            .change(alloc, encoding, version, &changes)
-        {
+        match document.change(given, version, &changes) {
             Ok(()) => self.report(uri),
             Err(ChangeError::Position) => {
                 self.show("patterns: a change is at a position that the document does not have")

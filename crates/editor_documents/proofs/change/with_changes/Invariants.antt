@@ -6,4 +6,4 @@ use Rattle.editor_documents.proofs.change.with_changes.Given as goal
 abbrev pub invariant-loop-change : goal.invariant-loop-change
 invariant-loop-change l =
     spec.with_changes l.encoding (chars l.text) l.changes
-    ≡ spec.with_changes l.encoding (chars (string_bytes l.changed)) (drop l.change-index l.changes)
+    ≡ spec.with_changes l.encoding (chars (string_bytes l.changed)) (drop l.change-index l.later)
