@@ -87,7 +87,8 @@ impl KnownPatterns {
         for _ in self.contexts.len()..index {
             self.contexts.push(String::new(self.alloc))?;
         }
-        self.contexts.push(context)
+        self.contexts.push(context)?;
+        Ok(())
     }
 
     /// Adds the pattern of an entry, on which this is reported.

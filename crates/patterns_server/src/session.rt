@@ -1,4 +1,7 @@
 //! What a client and the server have agreed on, the documents that are open, and what becomes of a message.
+ghost use Rattle.std.specs.Prelude.{◌≡◌, ◌≤◌, ℕ, IfOk};
+ghost use Rattle.patterns_server.specs.declared.session.Flow.TheVariants.{End};
+
 use crate::asked::{About, Refused, WRONG_PARAMS, asked, offsets};
 use crate::capabilities::{encoding_of, write_capabilities};
 use crate::folding::write_folds;
@@ -88,7 +91,9 @@ impl<'a, S: System, W: Write> Session<'a, S, W> {
     }
 
     /// The exit status if the client goes away, or ends the session: 0 if it asked for that before.
-    pub(crate) fn status(&self) -> u8 {
+    pub(crate) fn status(&self) -> u8
+        ensures { result ≤ 1 }
+    {
         if self.stage == Stage::ShutDown { 0 } else { 1 }
     }
 
@@ -129,7 +134,9 @@ impl<'a, S: System, W: Write> Session<'a, S, W> {
     }
 
     /// Does what a message asks for.
-    pub(crate) fn take(&mut self, message: &[u8]) -> Result<Flow, RunError> {
+    pub(crate) fn take(&mut self, message: &[u8]) -> Result<Flow, RunError>
+        ensures status { IfOk result (λ flow. (status : ℕ) → flow ≡ End status → status ≤ 1) }
+    {
         let alloc = self.given.alloc;
         let mut scratch = Scratch::new(alloc);
         match Value::from_slice(alloc, message, &mut scratch) {
@@ -143,7 +150,9 @@ impl<'a, S: System, W: Write> Session<'a, S, W> {
     }
 
     /// The same of a message that is JSON.
-    fn take_value(&mut self, value: &Value<'_>) -> Result<Flow, RunError> {
+    fn take_value(&mut self, value: &Value<'_>) -> Result<Flow, RunError>
+        ensures status { IfOk result (λ flow. (status : ℕ) → flow ≡ End status → status ≤ 1) }
+    {
         match Message::of(value) {
             Message::Request { id, method, params } => self.take_request(id, method, params)?,
             Message::Notification { method: "exit", .. } => return Ok(Flow::End(self.status())),
