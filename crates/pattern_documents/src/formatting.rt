@@ -5,8 +5,8 @@ use fancy_syntax::span::Span;
 use json::Writer;
 use pattern_files::entry::{Entry, Visitor};
 use pattern_reports::json_lines::fields::write_text;
-use patterns_config::file_settings::FormatSettings;
 use patterns_program::edited::EditedPatterns;
+use patterns_program::rewriting::{PatternForm, form_of};
 use patterns_text::error::RunError;
 
 /// Writes the edits that format the patterns of a part of a document.
@@ -14,9 +14,7 @@ use patterns_text::error::RunError;
 struct FormatWalk<'d> {
     locator: Locator<'d>,
     patterns: &'d EditedPatterns,
-    settings: FormatSettings,
-    /// Whether patterns may have several lines.
-    has_lines: bool,
+    form: PatternForm,
     /// The part, in byte offsets; None for all.
     part: Option<Span>,
     writer: &'d mut Writer,
@@ -28,10 +26,7 @@ impl Visitor for FormatWalk<'_> {
         if self.part.is_some_and(|part| !touches(part, entry.span)) {
             return Ok(());
         }
-        let formatted = self
-            .patterns
-            .formatted(entry, self.settings, self.has_lines)?;
-        let Some(part) = formatted else {
+        let Some(part) = self.patterns.formatted(entry, self.form)? else {
             return Ok(());
         };
         self.writer.begin_object()?;
@@ -56,8 +51,7 @@ pub fn write_formatted(
     let mut walk = FormatWalk {
         locator: Locator::new(given.encoding, document.source.text()),
         patterns: &document.patterns,
-        settings,
-        has_lines,
+        form: form_of(settings, has_lines),
         part,
         writer,
     };

@@ -1,14 +1,17 @@
 //! What a run does with a pattern, for an editor: nothing is written, and one pattern is worked on at a time.
+ghost use Rattle.std.specs.Prelude.{◌≡◌, IfOk, IfSome, unwrap_or};
+ghost use Rattle.fancy_lex.specs.Flags.{flags_of};
+ghost use Rattle.patterns_program.specs.Edited.{IsInForm, IsReplaced, Replaces};
+
 use crate::changes::{PatternChange, change_of};
 use crate::lint::{LintRequest, fixed_further, lint};
-use crate::rewriting::{PatternForm, Rewriting, form_of, formatted};
+use crate::rewriting::{PatternForm, Rewriting, formatted};
 use crate::tally::Tally;
 use lint_rules::chosen::Chosen;
 use pattern_files::entry::Entry;
 use pattern_files::spelling::{SpelledIn, fits};
 use pattern_reports::kept::Report;
 use pattern_reports::reports::Reports;
-use patterns_config::file_settings::FormatSettings;
 use patterns_lint::known::Known;
 use patterns_text::error::RunError;
 use patterns_text::position::Location;
@@ -41,7 +44,10 @@ impl EditedPatterns {
     }
 
     /// The pattern of an entry.
-    pub fn subject<'s>(&self, entry: Entry<'s>) -> Subject<'s> {
+    pub fn subject<'s>(&self, entry: Entry<'s>) -> Subject<'s>
+        ensures pattern { result.pattern ≡ entry.entry.pattern }
+        ensures flags { result.flags ≡ unwrap_or entry.entry.flags self.now.flags }
+    {
         Subject {
             alloc: self.alloc,
             flags: entry.flags.unwrap_or(self.flags),
@@ -95,7 +101,9 @@ impl EditedPatterns {
         entry: Entry<'_>,
         form: PatternForm,
         text: &str,
-    ) -> Result<Option<Replacement>, AllocError> {
+    ) -> Result<Option<Replacement>, AllocError>
+        ensures { IfOk result (λ found. IfSome found (IsReplaced entry.entry text.now)) }
+    {
         match change_of(self.alloc, entry, form, text)? {
             Ok(PatternChange::InFile(part)) => Ok(Some(part)),
             Ok(PatternChange::InSource(_)) | Err(_) => Ok(None),
@@ -114,22 +122,24 @@ impl EditedPatterns {
     }
 
     /// What is changed in the file for an entry that becomes the text by fixes; None if it stays.
-    pub fn fixed_to(&self, entry: Entry<'_>, text: &str) -> Result<Option<Replacement>, RunError> {
+    pub fn fixed_to(&self, entry: Entry<'_>, text: &str) -> Result<Option<Replacement>, RunError>
+        ensures { IfOk result (λ found. IfSome found (IsReplaced entry.entry text.now)) }
+    {
         if !fits(SpelledIn::Line, text, entry.pattern) {
             return Ok(None);
         }
         Ok(self.change(entry, PatternForm::NONE, text)?)
     }
 
-    /// What is changed in the file for an entry that is formatted; None if it stays. Without `has_lines` it is in one line, and
-    /// stays in it.
+    /// What is changed in the file for an entry that gets this form; None if it stays.
     pub fn formatted(
         &self,
         entry: Entry<'_>,
-        settings: FormatSettings,
-        has_lines: bool,
-    ) -> Result<Option<Replacement>, RunError> {
-        let form = form_of(settings, has_lines);
+        form: PatternForm,
+    ) -> Result<Option<Replacement>, RunError>
+        ensures { IfOk result (λ found. IfSome found (Replaces entry.entry
+            (IsInForm form (flags_of (unwrap_or entry.entry.flags self.now.flags)) entry.entry.pattern.now))) }
+    {
         let mut reports = Vec::new(self.alloc);
         let subject = self.subject(entry);
         match formatted(subject, form, &mut Reports::kept(&mut reports))? {

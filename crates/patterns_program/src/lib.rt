@@ -2,7 +2,7 @@
 //! `patterns_tests`, and the folder `data` of `patterns`, which `.ci/runs` reads.
 #![tactic(auto)]
 
-mod canonical;
+pub mod canonical;
 mod change;
 mod changes;
 mod check;
@@ -14,7 +14,7 @@ mod lint;
 mod outcome;
 pub mod pattern_flags;
 mod progress;
-mod rewriting;
+pub mod rewriting;
 pub mod run;
 mod source_changes;
 mod tally;
