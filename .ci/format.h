@@ -59,6 +59,22 @@ static bool are_formatted_by_hand_right(void) {
     return is_right;
 }
 
+// Whether a large pattern, whose tree is parsed again if its lines are new, is written as a small one.
+static bool is_large_by_hand_right(void) {
+    enum { COUNT = 8000, BEFORE = 9, AFTER = 2 };
+    char *pattern = malloc(COUNT * BEFORE), *text = malloc(COUNT * BEFORE);
+    for (size_t i = 0; i < COUNT; i++) memcpy(pattern + i * BEFORE, "(?:b){1,}", BEFORE);
+    bool is_right = true;
+    for (uint32_t style = KEPT; style <= COMPACT; style += COMPACT - KEPT) {
+        fancy_result got = fancy_format(pattern, COUNT * BEFORE, U, style, 0, text, COUNT * BEFORE);
+        is_right = is_right && got.status == FANCY_STATUS_OK && got.size == COUNT * AFTER;
+        for (size_t i = 0; is_right && i < COUNT; i++) is_right = memcmp(text + i * AFTER, "b+", AFTER) == 0;
+    }
+    free(pattern);
+    free(text);
+    return is_right;
+}
+
 // The comments of a pattern that are not empty, one after another, for the caller to free.
 static char *comments_of(const char *pattern, size_t length, uint32_t flags, size_t *size) {
     fancy_trivium *trivia = malloc(FANCY_MAX_TRIVIA(length) * sizeof *trivia);

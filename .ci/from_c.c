@@ -502,7 +502,8 @@ static bool is_rest_right(void) {
                         FANCY_STATUS_BUFFER_TOO_SHORT &&
                     fancy_parse(NULL, 0, 0, &node, 1, NULL, 0, NULL, 0, NULL, 0, &info).status == FANCY_STATUS_OK &&
                     info.node_count == 1 && node.kind == FANCY_NODE_EMPTY && node.start == 0 && node.stop == 0 && node.end == 1;
-    is_right = is_right && are_rows_by_hand_right() && are_trivia_by_hand_right() && are_formatted_by_hand_right();
+    is_right = is_right && are_rows_by_hand_right() && are_trivia_by_hand_right() && are_formatted_by_hand_right() &&
+               is_large_by_hand_right();
     is_right = is_right && are_unknown_precedences_refused() && is_need_set() && are_unknown_flags_refused() && are_spans_left_out();
     is_right = is_right && is_all_by_hand_right() && are_engine_calls_by_hand_right() && are_facts_by_hand_right() && are_old_names_right();
     for (uint32_t kind = 0; kind < 300; kind++) {

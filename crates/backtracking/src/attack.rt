@@ -2,6 +2,7 @@
 use crate::growth::{Growth, RepeatedText, grows};
 use crate::known_sets::{ClassSets, KnownSets};
 use crate::program::{Program, program_of};
+use crate::repeats::SMALL_LIMIT;
 use crate::sample::Sample;
 use crate::trial::{Trial, add_positions, is_any};
 use fancy_syntax::expr::{Expr, Shape, Wrap};
@@ -15,8 +16,8 @@ const REPETITIONS: usize = 3;
 /// The most nodes that are tried for a pattern.
 const MOST_TRIALS: usize = 20_000;
 
-/// The most steps of searches for a pattern.
-const MOST_STEPS: usize = 2_000_000;
+/// The most steps of searches for a pattern. A repeat takes at most half of those that are left.
+const MOST_STEPS: usize = 4_000_000;
 
 /// What may follow the repeated word, each in its turn.
 static ENDINGS: [&str; 32] = [
@@ -90,6 +91,8 @@ pub(crate) struct Surroundings<'a, 'k> {
     pub(crate) searches: usize,
     /// How many steps were taken in searches for a match.
     pub(crate) steps: usize,
+    /// After how many steps no more texts are tried for now.
+    most_steps: usize,
     /// The program of the pattern, once it was asked for; `None` if the pattern is not tried as a whole.
     program: Option<Option<Program>>,
     root: &'a Expr,
@@ -140,6 +143,14 @@ impl<'a> Target<'a> {
         }
     }
 
+    /// Whether it fails where a text ends after fewer turns than it has to take.
+    fn needs_turns(self) -> bool {
+        match self {
+            Target::Repeat(tree) => { matches!(tree, Expr::Repeat { lo, .. } if *lo > SMALL_LIMIT) }
+            Target::Sequence { .. } => false,
+        }
+    }
+
     /// How the steps grow.
     fn growth(self) -> Growth {
         match self {
@@ -172,6 +183,7 @@ impl<'a, 'k> Surroundings<'a, 'k> {
             trials: 0,
             searches: 0,
             steps: 0,
+            most_steps: MOST_STEPS / 2,
             program: None,
             root: parsed.root().expr(),
             groups: parsed.tree.total_groups,
@@ -180,9 +192,15 @@ impl<'a, 'k> Surroundings<'a, 'k> {
         }
     }
 
-    /// Whether the pattern was searched for in texts for so long that no more are tried.
+    /// Lets a repeat take half of the steps that are left.
+    pub(crate) fn begin_repeat(&mut self) {
+        let left = MOST_STEPS.saturating_sub(self.steps);
+        self.most_steps = self.steps.saturating_add(left / 2);
+    }
+
+    /// Whether the pattern was searched for in texts for so long that no more are tried for now.
     pub(crate) fn is_exhausted(&self) -> bool {
-        self.steps > MOST_STEPS || self.trials > MOST_TRIALS
+        self.steps > self.most_steps || self.trials > MOST_TRIALS
     }
 
     /// Whether the pattern is tried as a whole. Writes its program the first time.
@@ -404,7 +422,8 @@ pub(crate) fn find_attack<'a>(
     word: &[char],
     surroundings: &mut Surroundings<'a, '_>,
 ) -> Result<Option<Attack>, AllocError> {
-    if target.after().is_empty() && !is_followed(&surroundings.around) {
+    let is_last = target.after().is_empty() && !is_followed(&surroundings.around);
+    if is_last && !target.needs_turns() {
         return Ok(None);
     }
     let lead = lead_to(alloc, target, surroundings)?;

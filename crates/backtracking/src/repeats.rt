@@ -132,6 +132,7 @@ fn look_at<'a>(
         }
         PartKind::Choices => {}
     }
+    surroundings.begin_repeat();
     for others in 0..MOST_WORDS {
         if others > 0 && surroundings.is_exhausted() {
             break;

@@ -84,6 +84,26 @@ fn has_bar(source: &str, items: &[ClassItem]) -> bool
     false
 }
 
+/// Whether an item can be left out that is no escape.
+fn has_plain_needless(source: &str, findings: &[ClassFinding]) -> bool {
+    for one in findings {
+        if one.problem == ClassProblem::DuplicateCharacters
+            && let Some(item) = one.span.text(source)
+            && !item.starts_with('\\')
+        {
+            return true;
+        }
+    }
+    false
+}
+
+/// Whether a bar is one of the items, and one can be left out that is no escape.
+fn has_alternatives(source: &str, items: &[ClassItem], findings: &[ClassFinding]) -> bool
+    ensures { IsTrue result → HasBar source.now }
+{
+    has_bar(source, items) && has_plain_needless(source, findings)
+}
+
 /// The first escaped backslash of the items from this position on.
 fn backslash_from(source: &str, items: &[ClassItem], position: usize) -> Option<Span>
     ensures { IfSome result (λ span. (position ≤ span.start) × IsTextAt source.now span (codes "\\\\")) }
@@ -220,7 +240,7 @@ pub(crate) fn class_look(
         let look = ClassLook::DoubledBackslashes;
         return Ok(Some(LookAt { span, look }));
     }
-    if has_bar(class.source, &items) {
+    if has_alternatives(class.source, &items, findings) {
         let look = ClassLook::Alternatives;
         return Ok(Some(LookAt { span, look }));
     }

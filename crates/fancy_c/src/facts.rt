@@ -19,7 +19,7 @@ use crate::call_result::{
 use crate::read::read;
 use fancy_lex::flags::Flags;
 use fancy_syntax::expr::Expr;
-use pattern_facts::{Facts, MaxLength, Prefix, facts, is_easy, literal_prefix};
+use pattern_facts::{Facts, MaxLength, Prefix, facts, is_easy, prefix_beside};
 use std::alloc::{AllocError, Global};
 
 /// What is known of the matches of a node. Where nothing is known, all is 0 or false.
@@ -159,7 +159,7 @@ fn facts_of_tree(alloc: Global, tree: &Expr, unicode: bool) -> Result<Known, All
     ensures { IfOk result (λ k. AreFactsOf unicode (view tree.now) k.rows.items (string_bytes k.prefix) k.whole) }
 {
     let rows = facts(alloc, tree, unicode)?;
-    let prefix = literal_prefix(alloc, tree, unicode)?;
+    let prefix = prefix_beside(alloc, tree, unicode, &rows)?;
     let text = prefix_text(alloc, &prefix)?;
     let whole = PatternFacts {
         node_count: rows.len(),

@@ -425,14 +425,15 @@ impl Rule {
     }
 }
 
-/// Writes the rules to `out`, a line each: the name, what the rule reports, an example, what its reports are by default, and
-/// whether `--fix` fixes them.
+/// Writes the rules to `out`, two lines each: the name, what the rule reports, an example, what its reports are by default,
+/// and whether `--fix` fixes them; and what to do about a report.
 pub fn write_rules<O: Write>(out: &mut O) -> Result<(), RunError> {
     for row in RULES.iter() {
         let RuleRow {
             name,
             what,
             example,
+            help,
             ..
         } = row;
         let level = row.level.name();
@@ -444,7 +445,7 @@ pub fn write_rules<O: Write>(out: &mut O) -> Result<(), RunError> {
         let fixed = if row.fix.is_some() { ", fixed" } else { "" };
         writeln!(
             out,
-            "{name}: {what}, as in {example} [{level}{in_json}{fixed}]"
+            "{name}: {what}, as in {example} [{level}{in_json}{fixed}]\n  help: {help}"
         )?;
     }
     Ok(())

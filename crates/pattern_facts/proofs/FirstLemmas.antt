@@ -10,15 +10,16 @@ use Rattle.class_meaning.specs.EnginePattern.{engine_pattern}
 use Rattle.class_meaning.specs.declared.class_text.ClassMeaning.TheVariants.{Characters, NotOneCharacter}
 use Rattle.class_meaning.specs.declared.character_set.CharacterSet.{CharacterSet}
 use Rattle.fancy_grammar.specs.Label as label
-use Rattle.fancy_grammar.specs.Label.{Leaf, Wrap}
+use Rattle.fancy_grammar.specs.Label.{Wrap}
 use Rattle.fancy_grammar.specs.Tree.{Tree, Trees, leaf, over, row, no_trees, more_trees, any, literal, delegate}
 use Rattle.fancy_grammar.specs.declared.kinds.LookAround.{LookAround}
-use Rattle.pattern_matches.specs.Lengths.{HasAtLeast, min_length, min_lengths, or_zero}
+use Rattle.pattern_matches.specs.Defined.{AreDefined}
+use Rattle.pattern_matches.specs.Lengths.{HasAtLeast, min_length, min_lengths, or_zero, row_least}
 use Rattle.pattern_matches.specs.Matches.{IsOneOf, HasCharacter, Matches, RowMatches}
 use Rattle.pattern_matches.specs.Parts.{Position, Parts, One, one, Then, Times}
 use Rattle.pattern_matches.proofs.LeastLemmas.{least}
 use Rattle.pattern_matches.proofs.CharacterLemmas.{same_ranges}
-use Rattle.pattern_facts.specs.First.{BeginsWith, HasBeginning, IsBeginning, AreBegun, IsBegun}
+use Rattle.pattern_facts.specs.First.{BeginsWith, HasBeginning, IsBeginning, AreBegun, IsBegun, IsFull}
 use Rattle.pattern_facts.specs.Known.{is_empty_leaf}
 use Rattle.pattern_facts.specs.Lengths.{row_of}
 use Rattle.pattern_facts.proofs.ListLemmas.{least_assoc, least_whole}
@@ -243,6 +244,34 @@ begun_all u kind.Alt all (Some b) h = record {
   begins = λ s p q m. elim (h.begins s p q m) [ inl a ↦ a | inr r ↦ absurd r ];
   empty = h.empty ∙ ap (λ n. n == 0) (sym (ap or_zero h.min ∙ least_whole kind.Alt h.least));
 }
+
+-- a concatenation whose matches are not empty, whatever is left
+full_row : (u : Bool) (all rest : Trees) (b : Beginning) → b.can_be_empty ≡ false → AreDefined u rest →
+    AreBegun u kind.Concat all rest b → HasBeginning u (row label.concat all) b
+full_row u all rest b full d h = record {
+  defined = (tt, h.defined d);
+  begins = λ s p q m. elim (h.begins s p q m) [ inl a ↦ a | inr r ↦ absurd (false≢true (sym full ∙ r.0)) ];
+  empty = full ∙ sym (not_empty h.least (min_lengths label.concat rest) (min_lengths label.concat all)
+      (sym h.empty ∙ full) (concat_least rest) h.min);
+} where
+  -- a concatenation has a least length
+  concat_least : (ts : Trees) → (n : ℕ) × (min_lengths label.concat ts ≡ Some n)
+  concat_least no_trees = (0, refl)
+  concat_least (more_trees t ts) =
+      let more = concat_least ts in
+      (min_length t + more.0, ap (λ o. row_least label.concat (min_length t) o) more.1)
+
+  not_empty : (least : ℕ) (o whole : Option ℕ) → (least == 0) ≡ false → (n : ℕ) × (o ≡ Some n) →
+      whole ≡ row_least label.concat least o → (or_zero whole == 0) ≡ false
+  not_empty least o whole e known is =
+      ap (λ w. or_zero w == 0) (is ∙ ap (λ x. row_least label.concat least x) known.1)
+      ∙ sum_zero least known.0 ∙ ap (λ f. f && (known.0 == 0)) e
+
+pub full_list : (u : Bool) (k : ListKind) (all rest : Trees) (o : Option Beginning) → IsFull k o → AreDefined u rest →
+    IsBegun u k all rest o → IsBeginning u (row (row_of k) all) o
+full_list u kind.Concat all rest None e d h = absurd e
+full_list u kind.Concat all rest (Some b) e d h = full_row u all rest b e d h
+full_list u kind.Alt all rest o e d h = absurd e
 
 -- ---- as the code puts them together
 

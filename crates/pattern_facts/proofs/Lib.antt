@@ -7,4 +7,6 @@ pub mod NodeLemmas
 pub mod MatchLemmas
 pub mod FirstLemmas
 pub mod PrefixLemmas
+mod SpaceLemmas
+mod EscapeLemmas
 pub mod PlainLemmas

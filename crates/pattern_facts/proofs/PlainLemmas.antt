@@ -26,6 +26,7 @@ use Rattle.fancy_lex.specs.Text.{text_of}
 use Rattle.fancy_grammar.specs.Tree.{Tree, literal}
 use Rattle.fancy_syntax.specs.View.{view}
 use Rattle.fancy_syntax.specs.declared.expr.Expr.{Expr, Literal, the_lemmas}
+use Rattle.pattern_matches.specs.Defined.{IsOneCharacter}
 use Rattle.pattern_matches.specs.Matches.{HasCharacter}
 use Rattle.pattern_matches.proofs.CharacterLemmas.{same_ranges}
 use Rattle.pattern_facts.specs.Bytes.{AreBytesOfOne}
@@ -62,7 +63,10 @@ plain_reads u c rs scalar h =
 
 -- ---- the facts of such a literal
 
-only_it : (u : Bool) (c : ℕ) → IsScalar c → (d : ℕ) → HasCharacter u (literal (c ∷ []) false) d → d ≡ c
+pub plain_defined : (u : Bool) (c : ℕ) → IsScalar c → IsOneCharacter u (literal (c ∷ []) false)
+plain_defined u c scalar = (only c, plain_reads u c (only c) scalar (in_ranges_single c))
+
+pub only_it : (u : Bool) (c : ℕ) → IsScalar c → (d : ℕ) → HasCharacter u (literal (c ∷ []) false) d → d ≡ c
 only_it u c scalar d k =
     let is = plain_reads u c (only c) scalar (in_ranges_single c) in
     let same = same_ranges u (literal (c ∷ []) false) k.ranges (only c) k.reads is d k.scalar in
@@ -95,7 +99,7 @@ pub record AreOfCharacter (c : ℕ) (f : Facts) : Type 0 where
 pub plain_known : (u : Bool) (t : Tree) (c : ℕ) (f : Facts) → IsScalar c → t ≡ literal (c ∷ []) false →
     AreOfCharacter c f → IsKnownAs u t f
 plain_known u t c f scalar is h = subst (λ x. IsKnownAs u x f) (sym is) (record {
-  defined = (only c, plain_reads u c (only c) scalar (in_ranges_single c));
+  defined = plain_defined u c scalar;
   characters = h.characters;
   bytes = (len_utf8 c, Some (len_utf8 c), one_byte_length u c scalar, h.bytes);
   start = h.start;

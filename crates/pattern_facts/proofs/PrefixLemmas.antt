@@ -1,5 +1,5 @@
 -- The texts that matches begin with, node by node.
-use Rattle.std.proofs.Common.{◌≡◌, ℕ, zero, suc, ◌+◌, ◌≤◌, ◌==◌, ◌&&◌, ◌⊎◌, Bool, true, false, nat_eq, if◌then◌else◌, [], ◌∷◌, ◌++◌, length, length-drop, min, take, drop, Option, None, Some, Result, Ok, Err, IfOk, inl, inr, refl, sym, ap, ◌∙◌, subst, append_assoc, append-nil, eqb-true, eq-eqb, arith}
+use Rattle.std.proofs.Common.{IfSome, ◌≡◌, ℕ, zero, suc, ◌+◌, ◌≤◌, ◌==◌, ◌&&◌, ◌⊎◌, Bool, true, false, nat_eq, if◌then◌else◌, [], ◌∷◌, ◌++◌, length, length-drop, min, take, drop, Option, None, Some, Result, Ok, Err, IfOk, inl, inr, refl, sym, ap, ◌∙◌, subst, append_assoc, append-nil, eqb-true, eq-eqb, arith}
 use Rattle.std.specs.Prelude.{MatchOption}
 use Rattle.std.specs.List.{common_prefix_len}
 use Rattle.std.proofs.lemmas.List.Sums.{common_prefix_len-le}
@@ -13,12 +13,17 @@ use Rattle.fancy_grammar.specs.Label as label
 use Rattle.fancy_grammar.specs.Label.{Leaf, Wrap, Row}
 use Rattle.fancy_grammar.specs.Tree.{Tree, Trees, leaf, over, row, no_trees, more_trees, any, literal, delegate}
 use Rattle.fancy_grammar.specs.declared.kinds.LookAround.{LookAround}
+use Rattle.std.specs.Char.{IsScalar}
+use Rattle.std.specs.Option.{is_some}
+use Rattle.pattern_matches.specs.Defined.{AreDefined}
+use Rattle.pattern_facts.proofs.PlainLemmas.{only_it, plain_defined}
 use Rattle.pattern_matches.specs.Matches.{Assertions, HasCharacter, IsOneOf, Matches, RowMatches, LeafMatches, WrapMatches, NoneMatch, MoreMatch}
 use Rattle.pattern_matches.specs.Parts.{Position, Parts, One, one, Times, Repeated}
 use Rattle.pattern_matches.proofs.CharacterLemmas.{same_ranges}
+use Rattle.pattern_facts.specs.Bytes.{IsCharacterOf}
 use Rattle.pattern_facts.specs.Known.{is_empty_leaf}
 use Rattle.pattern_facts.specs.Lengths.{row_of}
-use Rattle.pattern_facts.specs.Prefix.{ArePrefixed, HasPrefix, IsOr, IsPrefix, IsPrefixOfSet, IsPrefixed, IsRepeated, IsTaken, IsText, IsTextAndMore, IsThen}
+use Rattle.pattern_facts.specs.Prefix.{ArePrefixed, HasPrefix, IsOr, IsPrefix, IsPrefixOfSet, IsPrefixed, IsRepeated, IsSettled, IsTaken, IsText, IsTextAndMore, IsThen}
 use Rattle.pattern_facts.specs.declared.lengths.ListKind.{ListKind}
 use Rattle.pattern_facts.specs.declared.lengths.ListKind.TheVariants as kind
 use Rattle.pattern_facts.specs.declared.prefix.Prefix.{Prefix}
@@ -184,6 +189,49 @@ set_prefix u (leaf (label.delegate text casei)) set x h is = record {
 set_prefix u (leaf l) set x h is = let y = is in cc
 set_prefix u (over w t) set x h is = let y = is in cc
 set_prefix u (row r ts) set x h is = let y = is in cc
+
+-- the prefix of a literal of one character, and of a node of one character that is not said
+pub plain_prefix : (u : Bool) (t : Tree) (c : ℕ) (x : Prefix) → IsScalar c → t ≡ literal (c ∷ []) false →
+    x.characters.items ≡ c ∷ [] → HasPrefix u t x
+plain_prefix u t c x scalar is own = subst (λ y. HasPrefix u y x) (sym is) (record {
+  defined = plain_defined u c scalar;
+  begins = λ s p q k. of_text x.characters.items p q (text_as (c ∷ []) x.characters.items p q (sym own)
+      (one_text (HasCharacter u (literal (c ∷ []) false)) c (only_it u c scalar) p q k));
+  whole = λ is_all s p q k. text_as (c ∷ []) x.characters.items p q (sym own)
+      (one_text (HasCharacter u (literal (c ∷ []) false)) c (only_it u c scalar) p q k);
+})
+
+-- no text of a part of one character
+no_text_of : (Has : ℕ → Type 0) (x : Prefix) → x.characters.items ≡ [] → (p q : Position) → One Has p q →
+    IsTextAndMore x.characters.items p q
+unfolding Passes
+no_text_of Has x none p q k = begins_as [] x.characters.items p q (sym none) (one_passes Has p q k)
+
+character_prefix : (u : Bool) (t : Tree) (n m : ℕ) (x : Prefix) → IsCharacterOf u t n m →
+    x.characters.items ≡ [] → x.is_whole ≡ false → HasPrefix u t x
+character_prefix u (leaf (label.any newline crlf)) n m x is none part = record {
+  defined = is.0;
+  begins = λ s p q k. no_text_of (HasCharacter u (any newline crlf)) x none p q k;
+  whole = λ is_all s p q k. absurd (false≢true (sym part ∙ is_all));
+}
+character_prefix u (leaf (label.literal text casei)) n m x is none part = record {
+  defined = is.0;
+  begins = λ s p q k. no_text_of (HasCharacter u (literal text casei)) x none p q k;
+  whole = λ is_all s p q k. absurd (false≢true (sym part ∙ is_all));
+}
+character_prefix u (leaf (label.delegate text casei)) n m x is none part = record {
+  defined = is.0;
+  begins = λ s p q k. no_text_of (HasCharacter u (delegate text casei)) x none p q k;
+  whole = λ is_all s p q k. absurd (false≢true (sym part ∙ is_all));
+}
+character_prefix u (leaf l) n m x is none part = absurd is.0.1
+character_prefix u (over w t) n m x is none part = absurd is.0.1
+character_prefix u (row r ts) n m x is none part = absurd is.0.1
+
+pub unsaid_prefix : (u : Bool) (t : Tree) (o : Option (ℕ × ℕ)) (x : Prefix) → true ≡ is_some o →
+    IfSome o (λ b. IsCharacterOf u t b.0 b.1) → x.characters.items ≡ [] → x.is_whole ≡ false → HasPrefix u t x
+unsaid_prefix u t None x some h none part = absurd (false≢true (sym some))
+unsaid_prefix u t (Some b) x some h none part = character_prefix u t b.0 b.1 x h none part
 
 -- ---- nodes over one tree
 
@@ -491,6 +539,29 @@ prefixed_all u kind.Alt all (Some x) h = record {
   defined = (tt, h.defined tt);
   begins = λ s p q m. elim (h.begins s p q m) [ inl a ↦ a.0 | inr r ↦ absurd r ];
   whole = λ is_all s p q m. elim (h.begins s p q m) [ inl a ↦ a.1 is_all | inr r ↦ absurd r ];
+}
+
+-- a list whose prefix no tree that is left changes
+pub settled : (u : Bool) (k : ListKind) (all rest : Trees) (o : Option Prefix) → IsSettled k o → AreDefined u rest →
+    IsPrefixed u k all rest o → IsPrefix u (row (row_of k) all) o
+settled u k all rest None e d h = absurd e
+settled u kind.Concat all rest (Some x) e d h = record {
+  defined = (tt, h.defined d);
+  begins = λ s p q m. elim (h.begins s p q m) [
+    | inl a ↦ a.1
+    | inr r ↦
+        let more = row_passes u s label.concat rest r.0 q r.2 in
+        then_more x.characters.items more.0 p r.0 q (of_text x.characters.items p r.0 r.1) more.1
+  ];
+  whole = λ is_all s p q m. absurd (false≢true (sym e ∙ is_all));
+}
+settled u kind.Alt all rest (Some x) e d h = record {
+  defined = (tt, h.defined d);
+  begins = λ s p q m. elim (h.begins s p q m) [
+    | inl a ↦ a.0
+    | inr r ↦ begins_as [] x.characters.items p q (sym e.1) (row_passes u s label.alt rest p q r)
+  ];
+  whole = λ is_all s p q m. absurd (false≢true (sym e.0 ∙ is_all));
 }
 
 -- a list of no trees

@@ -5,6 +5,7 @@ use Rattle.std.specs.Char.{len_utf8}
 use Rattle.fancy_grammar.specs.Label as label
 use Rattle.fancy_grammar.specs.Label.{Leaf, Row}
 use Rattle.fancy_grammar.specs.Tree.{Tree, Trees, leaf, over, row, no_trees, more_trees, any, literal, delegate}
+use Rattle.pattern_matches.specs.Defined.{IsOneCharacter}
 use Rattle.pattern_matches.specs.Lengths.{wrap_least, wrap_most, row_least, row_most, least_of_none, or_zero}
 use Rattle.pattern_matches.specs.Matches.{HasCharacter}
 use Rattle.pattern_facts.specs.Lengths.{AreLengths}
@@ -19,6 +20,10 @@ SomeHas Has n = (c : ℕ) × Has c × (len_utf8 c ≡ n)
 pub record AreBytesOfOne (Has : ℕ → Type 0) (n m : ℕ) : Type 0 where
   pub within : (c : ℕ) → Has c → (n ≤ len_utf8 c) × (len_utf8 c ≤ m)
   pub reached : (SomeHas Has n × SomeHas Has m) ⊎ (((c : ℕ) → Has c → ⊥) × (n ≡ 1) × (m ≡ 1))
+
+-- the engine reads the node as one character, which has at least n bytes and at most m
+abbrev pub IsCharacterOf : Bool → Tree → ℕ → ℕ → Type 0
+IsCharacterOf unicode t n m = IsOneCharacter unicode t × AreBytesOfOne (HasCharacter unicode t) n m
 
 abbrev pub IsOneLong : Bool → Tree → ℕ → Option ℕ → Type 0
 IsOneLong unicode t n None = ⊥

@@ -1,5 +1,5 @@
 -- The characters that matches begin with.
-use Rattle.std.specs.Prelude.{◌≡◌, ℕ, ◌==◌, ◌⊎◌, Bool, true, ◌∷◌, Option, None, Some, IsTrue}
+use Rattle.std.specs.Prelude.{◌≡◌, ℕ, ◌==◌, ◌⊎◌, Bool, true, false, ◌∷◌, Option, None, Some, IsTrue}
 use Rattle.fancy_lex.specs.Text.{Text}
 use Rattle.fancy_grammar.specs.Tree.{Tree, Trees}
 use Rattle.class_meaning.specs.CharacterSet.{has_character}
@@ -29,6 +29,11 @@ pub record HasBeginning (unicode : Bool) (t : Tree) (b : Beginning) : Type 0 whe
 abbrev pub IsBeginning : Bool → Tree → Option Beginning → Type 0
 IsBeginning unicode t None = IsUnknown unicode t
 IsBeginning unicode t (Some b) = HasBeginning unicode t b
+
+-- it is that of a concatenation whose matches are not empty so far
+abbrev pub IsFull : ListKind → Option Beginning → Type 0
+IsFull kind.Concat (Some b) = b.can_be_empty ≡ false
+IsFull k o = ⊥
 
 -- ---- lists of trees, some of which are taken
 

@@ -34,6 +34,12 @@ abbrev pub IsPrefix : Bool → Tree → Option Prefix → Type 0
 IsPrefix unicode t None = IsUnknown unicode t
 IsPrefix unicode t (Some x) = HasPrefix unicode t x
 
+-- it is the prefix of a list of trees, whatever trees follow
+abbrev pub IsSettled : ListKind → Option Prefix → Type 0
+IsSettled k None = ⊥
+IsSettled kind.Concat (Some x) = x.is_whole ≡ false
+IsSettled kind.Alt (Some x) = (x.is_whole ≡ false) × (x.characters.items ≡ [])
+
 -- ---- how prefixes are put together
 
 -- a set's only character, or no text

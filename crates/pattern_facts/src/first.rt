@@ -1,12 +1,17 @@
 //! The characters that the matches of a node begin with.
 ghost use Rattle.std.specs.Prelude.{◌≡◌, true, Bool, IfOk};
+ghost use Rattle.std.specs.List.{AllZip};
 ghost use Rattle.fancy_grammar.specs.Tree.{Tree, Trees, is_leaf, more_trees, over, row, trees_of};
 ghost use Rattle.fancy_syntax.specs.Shape.{label_of};
 ghost use Rattle.fancy_syntax.specs.View.{view, views};
-ghost use Rattle.pattern_facts.specs.First.{AreBegun, HasBeginning, IsBegun, IsBeginning};
+ghost use Rattle.pattern_facts.specs.First.{AreBegun, HasBeginning, IsBegun, IsBeginning, IsFull};
+ghost use Rattle.pattern_facts.specs.Known.{IsRowOf};
 ghost use Rattle.pattern_facts.specs.Lengths.{row_of};
+ghost use Rattle.pattern_facts.specs.Nodes.{nodes_of};
+ghost use Rattle.pattern_matches.specs.Defined.{AreDefined, IsDefined};
 
 use crate::lengths::ListKind;
+use crate::node_facts::Facts;
 use crate::plain::meaning_of;
 use crate::rows::is_empty_leaf;
 use class_meaning::{CharacterSet, ClassMeaning};
@@ -123,40 +128,68 @@ fn with_next(
     }
 }
 
-/// That of a list of trees.
+/// Whether it is that of a concatenation whose matches are not empty so far.
+fn is_full(kind: ListKind, beginning: &Option<Beginning>) -> bool
+    ensures { result ≡ true → IsFull kind beginning.now }
+{
+    let Some(beginning) = beginning else {
+        return false;
+    };
+    match kind {
+        ListKind::Concat => !beginning.can_be_empty,
+        ListKind::Alt => false,
+    }
+}
+
+/// That of a list of trees. If what they match is known to be defined, those that do not change it are not read.
 #[cycle(first)]
 fn beginning_of_list(
     alloc: Global,
     kind: ListKind,
     trees: &[Expr],
     unicode: bool,
+    is_known: bool,
 ) -> Result<Option<Beginning>, AllocError>
+    requires { is_known ≡ true → AreDefined unicode (trees_of (views trees.now)) }
     ensures { IfOk result (IsBeginning unicode (row (row_of kind) (trees_of (views trees.now)))) }
 {
     let Some((first, more)) = trees.split_first() else {
         return Ok(Some(empty(alloc)?));
     };
-    let mut all = beginning_of(alloc, first, unicode)?;
+    let mut all = beginning_of(alloc, first, unicode, is_known)?;
     for tree in more {
-        let next = beginning_of(alloc, tree, unicode)?;
+        if is_known && is_full(kind, &all) {
+            return Ok(all);
+        }
+        let next = beginning_of(alloc, tree, unicode, is_known)?;
         all = with_next(kind, all, next)?;
     }
     Ok(all)
 }
 
-/// That of the node, and whether it is known.
+/// That of the node.
 #[cycle(first)]
-fn beginning_of(alloc: Global, tree: &Expr, unicode: bool) -> Result<Option<Beginning>, AllocError>
+fn beginning_of(
+    alloc: Global,
+    tree: &Expr,
+    unicode: bool,
+    is_known: bool,
+) -> Result<Option<Beginning>, AllocError>
+    requires { is_known ≡ true → IsDefined unicode (view tree.now) }
     ensures { IfOk result (IsBeginning unicode (view tree.now)) }
 {
     match tree.shape() {
         Shape::Leaf => beginning_of_leaf(alloc, tree, unicode),
         Shape::Around(wrap, child) => {
-            let below = beginning_of(alloc, child, unicode)?;
+            let below = beginning_of(alloc, child, unicode, is_known)?;
             beginning_around(alloc, wrap, below)
         }
-        Shape::Concat(pieces) => beginning_of_list(alloc, ListKind::Concat, pieces, unicode),
-        Shape::Alt(branches) => beginning_of_list(alloc, ListKind::Alt, branches, unicode),
+        Shape::Concat(pieces) => {
+            beginning_of_list(alloc, ListKind::Concat, pieces, unicode, is_known)
+        }
+        Shape::Alt(branches) => {
+            beginning_of_list(alloc, ListKind::Alt, branches, unicode, is_known)
+        }
         Shape::Conditional { .. } | Shape::Expression { .. } => Ok(None),
     }
 }
@@ -173,5 +206,30 @@ pub fn first_characters(
 ) -> Result<Option<Beginning>, AllocError>
     ensures { IfOk result (IsBeginning unicode (view tree.now)) }
 {
-    beginning_of(alloc, tree, unicode)
+    beginning_of(alloc, tree, unicode, false)
+}
+
+/// Returns what `first_characters` does, for a tree that has these facts. It reads no class after the first characters, and
+/// none if nothing is known of the tree. Fails if memory runs out.
+///
+/// ```rust
+/// let rows = facts(alloc, &tree.expr, true)?;
+/// let beginning = beginning_beside(alloc, &tree.expr, true, &rows)?;
+/// ```
+pub fn beginning_beside(
+    alloc: Global,
+    tree: &Expr,
+    unicode: bool,
+    rows: &[Option<Facts>],
+) -> Result<Option<Beginning>, AllocError>
+    requires { AllZip (IsRowOf unicode) (nodes_of (view tree.now)) rows.now }
+    ensures { IfOk result (IsBeginning unicode (view tree.now)) }
+{
+    let Some(own) = rows.first() else {
+        return first_characters(alloc, tree, unicode);
+    };
+    match own {
+        Some(_) => beginning_of(alloc, tree, unicode, true),
+        None => Ok(None),
+    }
 }

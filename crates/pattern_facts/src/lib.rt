@@ -10,8 +10,8 @@ pub mod prefix;
 pub mod rows;
 
 pub use easy::is_easy;
-pub use first::{Beginning, first_characters};
+pub use first::{Beginning, beginning_beside, first_characters};
 pub use lengths::{Lengths, MaxLength};
 pub use node_facts::Facts;
-pub use prefix::{Prefix, literal_prefix};
+pub use prefix::{Prefix, literal_prefix, prefix_beside};
 pub use rows::facts;

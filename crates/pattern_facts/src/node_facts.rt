@@ -153,6 +153,21 @@ impl Facts {
         }
     }
 
+    /// Those of a node of which each match is a character of at least, and at most, so many bytes.
+    pub(crate) fn of_bytes(least: usize, greatest: usize) -> Facts
+        ensures characters { AreLengths 1 (Some 1) result.characters }
+        ensures bytes { AreLengths least (Some greatest) result.bytes }
+        ensures start { result.is_anchored_at_start ≡ false }
+        ensures end { result.is_anchored_at_end ≡ false }
+    {
+        Facts {
+            characters: Lengths::exactly(1),
+            bytes: Lengths::between(least, greatest),
+            is_anchored_at_start: false,
+            is_anchored_at_end: false,
+        }
+    }
+
     /// Those of a look-around for a node with these facts.
     pub(crate) fn looked_for(self, kind: LookAround) -> Facts
         ensures characters { AreLengths 0 (Some 0) result.characters }

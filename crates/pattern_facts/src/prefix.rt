@@ -1,18 +1,22 @@
 //! The text that the matches of a node begin with.
-ghost use Rattle.std.specs.Prelude.{◌≡◌, ℕ, ◌≤◌, true, Bool, IfOk, IfSome, nat_eq, length, []};
-ghost use Rattle.std.specs.List.{common_prefix_len};
+ghost use Rattle.std.specs.Prelude.{◌≡◌, ℕ, ◌≤◌, true, Bool, IfOk, IfSome, nat_eq, length, [], ◌∷◌};
+ghost use Rattle.std.specs.List.{AllZip, common_prefix_len};
 ghost use Rattle.class_meaning.specs.CharacterSet.{has_character};
 ghost use Rattle.fancy_grammar.specs.Tree.{Tree, Trees, is_leaf, more_trees, over, row, trees_of};
 ghost use Rattle.fancy_syntax.specs.Shape.{label_of};
 ghost use Rattle.fancy_syntax.specs.View.{view, views};
+ghost use Rattle.pattern_facts.specs.Known.{IsRowOf};
 ghost use Rattle.pattern_facts.specs.Lengths.{row_of};
+ghost use Rattle.pattern_facts.specs.Nodes.{nodes_of};
 ghost use Rattle.pattern_facts.specs.Prefix.{ArePrefixed, HasPrefix, IsPrefix, IsPrefixed};
-ghost use Rattle.pattern_facts.specs.Prefix.{IsOr, IsPrefixOfSet, IsRepeated, IsThen};
+ghost use Rattle.pattern_facts.specs.Prefix.{IsOr, IsPrefixOfSet, IsRepeated, IsSettled, IsThen};
+ghost use Rattle.pattern_matches.specs.Defined.{AreDefined, IsDefined};
 
 use crate::lengths::ListKind;
-use crate::plain::meaning_of;
+use crate::node_facts::Facts;
+use crate::plain::{bytes_of_node, plain_character};
 use crate::rows::is_empty_leaf;
-use class_meaning::{CharacterSet, ClassMeaning};
+use class_meaning::{CharacterSet, ClassMeaning, characters_of};
 use fancy_syntax::expr::{Expr, Shape, Wrap};
 use std::alloc::{AllocError, Global};
 
@@ -36,6 +40,16 @@ fn nothing(alloc: Global, is_whole: bool) -> Prefix
     }
 }
 
+/// That of a node of which each match is this character.
+fn one(alloc: Global, c: char) -> Result<Prefix, AllocError>
+    ensures { IfOk result (λ x. (x.characters.items ≡ c ∷ []) × (x.is_whole ≡ true)) }
+{
+    Ok(Prefix {
+        characters: vec![in alloc; c]?,
+        is_whole: true,
+    })
+}
+
 /// The character of the set, if it has no other.
 fn only_character(set: &CharacterSet) -> Option<char>
     ensures { IfSome result (λ c. (d : ℕ) → has_character set.now d ≡ true → d ≡ c) }
@@ -52,10 +66,7 @@ fn prefix_of_set(alloc: Global, set: &CharacterSet) -> Result<Prefix, AllocError
     ensures { IfOk result (IsPrefixOfSet set.now) }
 {
     match only_character(set) {
-        Some(c) => Ok(Prefix {
-            characters: vec![in alloc; c]?,
-            is_whole: true,
-        }),
+        Some(c) => one(alloc, c),
         None => Ok(nothing(alloc, false)),
     }
 }
@@ -68,7 +79,13 @@ fn prefix_of_leaf(alloc: Global, node: &Expr, unicode: bool) -> Result<Option<Pr
     if is_empty_leaf(node) {
         return Ok(Some(nothing(alloc, true)));
     }
-    match meaning_of(alloc, node, unicode)? {
+    if let Some(c) = plain_character(node) {
+        return Ok(Some(one(alloc, c)?));
+    }
+    if bytes_of_node(node, unicode).is_some() {
+        return Ok(Some(nothing(alloc, false)));
+    }
+    match characters_of(alloc, node, unicode)? {
         ClassMeaning::Characters(set) => Ok(Some(prefix_of_set(alloc, &set)?)),
         ClassMeaning::Refused(_) | ClassMeaning::NotOneCharacter => Ok(None),
     }
@@ -197,40 +214,64 @@ fn with_next(
     }
 }
 
-/// That of a list of trees.
+/// Whether it is that of a list of trees, whatever follows.
+fn is_settled(kind: ListKind, prefix: &Option<Prefix>) -> bool
+    ensures { result ≡ true → IsSettled kind prefix.now }
+{
+    let Some(prefix) = prefix else {
+        return false;
+    };
+    match kind {
+        ListKind::Concat => !prefix.is_whole,
+        ListKind::Alt => !prefix.is_whole && prefix.characters.is_empty(),
+    }
+}
+
+/// That of a list of trees. If what they match is known to be defined, those that do not change it are not read.
 #[cycle(prefix)]
 fn prefix_of_list(
     alloc: Global,
     kind: ListKind,
     trees: &[Expr],
     unicode: bool,
+    is_known: bool,
 ) -> Result<Option<Prefix>, AllocError>
+    requires { is_known ≡ true → AreDefined unicode (trees_of (views trees.now)) }
     ensures { IfOk result (IsPrefix unicode (row (row_of kind) (trees_of (views trees.now)))) }
 {
     let Some((first, more)) = trees.split_first() else {
         return Ok(Some(nothing(alloc, true)));
     };
-    let mut all = prefix_of(alloc, first, unicode)?;
+    let mut all = prefix_of(alloc, first, unicode, is_known)?;
     for tree in more {
-        let next = prefix_of(alloc, tree, unicode)?;
+        if is_known && is_settled(kind, &all) {
+            return Ok(all);
+        }
+        let next = prefix_of(alloc, tree, unicode, is_known)?;
         all = with_next(kind, all, next)?;
     }
     Ok(all)
 }
 
-/// That of the node, and whether it is known.
+/// That of the node.
 #[cycle(prefix)]
-fn prefix_of(alloc: Global, tree: &Expr, unicode: bool) -> Result<Option<Prefix>, AllocError>
+fn prefix_of(
+    alloc: Global,
+    tree: &Expr,
+    unicode: bool,
+    is_known: bool,
+) -> Result<Option<Prefix>, AllocError>
+    requires { is_known ≡ true → IsDefined unicode (view tree.now) }
     ensures { IfOk result (IsPrefix unicode (view tree.now)) }
 {
     match tree.shape() {
         Shape::Leaf => prefix_of_leaf(alloc, tree, unicode),
         Shape::Around(wrap, child) => {
-            let below = prefix_of(alloc, child, unicode)?;
+            let below = prefix_of(alloc, child, unicode, is_known)?;
             Ok(prefix_around(alloc, wrap, below))
         }
-        Shape::Concat(pieces) => prefix_of_list(alloc, ListKind::Concat, pieces, unicode),
-        Shape::Alt(branches) => prefix_of_list(alloc, ListKind::Alt, branches, unicode),
+        Shape::Concat(pieces) => prefix_of_list(alloc, ListKind::Concat, pieces, unicode, is_known),
+        Shape::Alt(branches) => prefix_of_list(alloc, ListKind::Alt, branches, unicode, is_known),
         Shape::Conditional { .. } | Shape::Expression { .. } => Ok(None),
     }
 }
@@ -248,5 +289,30 @@ pub fn literal_prefix(
 ) -> Result<Option<Prefix>, AllocError>
     ensures { IfOk result (IsPrefix unicode (view tree.now)) }
 {
-    prefix_of(alloc, tree, unicode)
+    prefix_of(alloc, tree, unicode, false)
+}
+
+/// Returns what `literal_prefix` does, for a tree that has these facts. It reads no class that follows the text, and none
+/// if nothing is known of the tree. Fails if memory runs out.
+///
+/// ```rust
+/// let rows = facts(alloc, &tree.expr, true)?;
+/// let prefix = prefix_beside(alloc, &tree.expr, true, &rows)?;
+/// ```
+pub fn prefix_beside(
+    alloc: Global,
+    tree: &Expr,
+    unicode: bool,
+    rows: &[Option<Facts>],
+) -> Result<Option<Prefix>, AllocError>
+    requires { AllZip (IsRowOf unicode) (nodes_of (view tree.now)) rows.now }
+    ensures { IfOk result (IsPrefix unicode (view tree.now)) }
+{
+    let Some(own) = rows.first() else {
+        return literal_prefix(alloc, tree, unicode);
+    };
+    match own {
+        Some(_) => prefix_of(alloc, tree, unicode, true),
+        None => Ok(None),
+    }
 }

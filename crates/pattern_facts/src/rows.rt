@@ -12,7 +12,7 @@ ghost use Rattle.pattern_facts.specs.Nodes.{nodes_of, nodes_below, nodes_of_all}
 
 use crate::lengths::ListKind;
 use crate::node_facts::{Facts, is_text_end, is_text_start, no_branch};
-use crate::plain::plain_facts;
+use crate::plain::{escape_facts, plain_facts};
 use class_meaning::{ClassMeaning, characters_of};
 use fancy_syntax::expr::{Expr, Shape, Wrap};
 use std::alloc::{AllocError, Global};
@@ -33,6 +33,9 @@ fn leaf_facts(alloc: Global, node: &Expr, unicode: bool) -> Result<Option<Facts>
         return Ok(Some(Facts::empty(is_text_start(node), is_text_end(node))));
     }
     if let Some(facts) = plain_facts(node) {
+        return Ok(Some(facts));
+    }
+    if let Some(facts) = escape_facts(node, unicode) {
         return Ok(Some(facts));
     }
     match characters_of(alloc, node, unicode)? {
@@ -159,7 +162,7 @@ fn add_node(
 /// Returns what is known of the matches of each node, in preorder, as spans are listed. `None` where nothing is known,
 /// because of the node or of one below it: a reference or a call, an atomic group, a conditional, an absent form, `\R`,
 /// `\K`, `\G`, a byte, a verb, or a class that the engine does not read as one character. `unicode` says whether it reads
-/// with Unicode, as under `FLAG_UNICODE`. Each class and dot is read, and each literal that ignores case. Fails if memory
+/// with Unicode, as under `FLAG_UNICODE`. Most classes are read, and literals that ignore case. Fails if memory
 /// runs out.
 ///
 /// ```rust

@@ -82,7 +82,7 @@ fn push_comment<'p>(
 }
 
 /// What the style keeps of the comments of a pattern that are not empty, in order; None if one is not in the pattern.
-fn comments_of<'p>(
+pub(crate) fn comments_of<'p>(
     alloc: Global,
     pattern: &'p str,
     trivia: &[Trivium],
@@ -107,23 +107,19 @@ fn are_same(texts: &[&str], others: &[&str]) -> bool
     texts == others
 }
 
-/// Whether the comments of two patterns that are not empty are the same, in the same order, as the style keeps them.
-pub(crate) fn has_same_comments(
+/// Whether what the style keeps of the comments of a pattern that are not empty is these texts, in this order.
+pub(crate) fn has_comments(
     alloc: Global,
+    texts: &[&str],
     pattern: &str,
     trivia: &[Trivium],
-    other_pattern: &str,
-    other_trivia: &[Trivium],
     style: Style,
 ) -> Result<bool, AllocError>
-    ensures { IfOk result (λ b. IsTrue b → spec.comments style pattern.now (map trivium_of trivia.now) ≡
-        spec.comments style other_pattern.now (map trivium_of other_trivia.now)) }
+    ensures { IfOk result (λ b. IsTrue b →
+        map (λ t. t.now) texts.now ≡ spec.comments style pattern.now (map trivium_of trivia.now)) }
 {
-    let Some(texts) = comments_of(alloc, pattern, trivia, style)? else {
+    let Some(own) = comments_of(alloc, pattern, trivia, style)? else {
         return Ok(false);
     };
-    let Some(other_texts) = comments_of(alloc, other_pattern, other_trivia, style)? else {
-        return Ok(false);
-    };
-    Ok(are_same(&texts, &other_texts))
+    Ok(are_same(texts, &own))
 }

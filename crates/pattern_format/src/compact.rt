@@ -2,9 +2,10 @@
 use crate::all_comments::{Comment, all_comments};
 use crate::bars::with_bars_first;
 use crate::columns::join_columns;
+use crate::comments::comments_of;
 use crate::cut::tokens_of;
 use crate::labels::{kept_line_ends, needs_line_ends};
-use crate::read_back::reads_back;
+use crate::read_back::{reads_back_as, tree_of};
 use crate::sheet::Sheet;
 use crate::spelling::{push_flags, push_quantifier, without_blanks};
 use crate::style::Style;
@@ -528,10 +529,14 @@ fn in_line_once(alloc: Global, pattern: &str, flags: u32) -> Result<Option<Strin
     let mut tokens = tokens_of(alloc, pattern, &parsed, false)?;
     let comments = all_comments(alloc, &parsed.trivia)?;
     let line_ends = kept_lines(alloc, pattern, &mut tokens, &comments)?;
-    if line_ends.is_none() {
+    if line_ends.is_none() && !comments.is_empty() {
         tokens = with_bars_first(alloc, &tokens)?;
     }
     let line_ends = line_ends.as_deref();
+    let Some(texts) = comments_of(alloc, pattern, &parsed.trivia, Style::Compact)? else {
+        return Ok(None);
+    };
+    let tree = tree_of(parsed);
     let oniguruma_mode = Flags::from_bits(flags).oniguruma_mode;
     for loss in losses(&tokens) {
         let text = in_one_line(
@@ -543,14 +548,7 @@ fn in_line_once(alloc: Global, pattern: &str, flags: u32) -> Result<Option<Strin
             *loss,
             oniguruma_mode,
         )?;
-        if reads_back(
-            alloc,
-            pattern,
-            &parsed,
-            text.as_str(),
-            flags,
-            Style::Compact,
-        )? {
+        if reads_back_as(alloc, &tree, &texts, text.as_str(), flags, Style::Compact)? {
             return Ok(Some(text));
         }
     }

@@ -9,7 +9,6 @@ mod comments;
 mod compact;
 mod cut;
 pub mod extent;
-pub mod first_comment;
 mod flag_groups;
 pub mod format;
 mod items;

@@ -258,6 +258,11 @@ impl<'p> Kept<'p> {
     }
 }
 
+/// Whether a token is needless.
+pub(crate) fn has_needless(tokens: &[Token<'_>]) -> bool {
+    tokens.iter().any(|token| token.is_needless)
+}
+
 /// The tokens that are not needless.
 pub(crate) fn without_needless<'p>(
     alloc: Global,

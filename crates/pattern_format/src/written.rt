@@ -1,7 +1,7 @@
 //! The formatted text of a pattern's tokens.
 use crate::blanks::Writer;
 use crate::extent::Extent;
-use crate::removed::without_needless;
+use crate::removed::{has_needless, without_needless};
 use crate::spelling::{push_flags, push_quantifier};
 use crate::token::{Token, TokenKind};
 use std::alloc::{AllocError, Global};
@@ -59,7 +59,7 @@ pub(crate) fn text_of(
     extent: Extent,
     oniguruma_mode: bool,
 ) -> Result<String, AllocError> {
-    if extent == Extent::Whole {
+    if extent == Extent::Whole && has_needless(tokens) {
         let kept = without_needless(alloc, tokens)?;
         return text_of_all(alloc, &kept, extent, oniguruma_mode);
     }

@@ -12,7 +12,7 @@ use fancy_syntax::spanned::SpannedTree;
 use lint_rules::problem::Found;
 use pattern_fixes::edit::{Edit, FixableReport};
 use pattern_fixes::fixed::ParsedPattern;
-use pattern_format::first_comment::first_comment;
+use patterns_text::first_comment::first_comment;
 use patterns_text::subject::Subject;
 use std::alloc::AllocError;
 

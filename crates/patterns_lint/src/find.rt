@@ -1,7 +1,7 @@
 //! All that the rules find in a pattern.
 use crate::branches::Following;
 use crate::captures::missing_captures;
-use crate::escapes::containing_escape;
+use crate::escapes::{containing_escape, is_of_other_case};
 use crate::flags::useless_flags;
 use crate::handed_on::is_handed_on;
 use crate::known::Known;
@@ -50,7 +50,8 @@ fn of_class<'a>(finding: ClassFinding, pattern: &str, nodes: &[SpannedNode<'_>])
 /// What is wrong with a class whose backslashes are doubled.
 static DOUBLED: ClassProblem = ClassProblem::SuspiciousClass(ClassLook::DoubledBackslashes);
 
-/// Adds what is wrong with classes and with branches of one character; of classes whose backslashes are doubled the first.
+/// Adds what is wrong with classes and with branches of one character; of classes whose backslashes are doubled the first, and
+/// no range that its class has in the other case.
 fn add_of_classes(
     found: &mut Vec<Found<'_>>,
     findings: &[ClassFinding],
@@ -61,6 +62,11 @@ fn add_of_classes(
     for finding in findings {
         let is_doubled = finding.problem == DOUBLED;
         if is_doubled && has_doubled {
+            continue;
+        }
+        if finding.problem == ClassProblem::DuplicateCharacters
+            && is_of_other_case(finding.span, pattern, nodes)
+        {
             continue;
         }
         has_doubled = has_doubled || is_doubled;

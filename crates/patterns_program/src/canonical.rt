@@ -18,11 +18,11 @@ use fancy_lex::error::Error;
 use fancy_pattern::to_pattern;
 use fancy_syntax::spanned::SpannedTree;
 use pattern_files::lines::breaks_line;
-use pattern_format::first_comment::first_comment;
 use pattern_format::spelled::in_spelling_of;
 use pattern_reports::reporter::Reporter;
 use pattern_reports::reports::Reports;
 use patterns_text::error::RunError;
+use patterns_text::first_comment::first_comment;
 use patterns_text::subject::{Refusal, Subject};
 use std::alloc::{AllocError, Global};
 

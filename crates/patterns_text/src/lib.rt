@@ -4,6 +4,7 @@
 pub mod columns;
 pub mod error;
 pub mod excerpt;
+pub mod first_comment;
 pub mod flag_letters;
 pub mod grammar_rule;
 pub mod group_info;

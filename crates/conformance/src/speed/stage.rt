@@ -4,7 +4,7 @@ use anyhow::{Context, Result, bail};
 use fancy_lex::flag_word::flags_named;
 use fancy_pattern::to_pattern;
 use fancy_syntax::{Error, Expr, ExprTree, FLAG_UNICODE, WHOLE};
-use pattern_facts::{facts, first_characters, is_easy, literal_prefix};
+use pattern_facts::{beginning_beside, facts, is_easy, prefix_beside};
 use std::alloc::{AllocError, Global};
 
 /// What is done to a pattern last. Each stage does those before it too.
@@ -28,12 +28,13 @@ pub(crate) enum Stage {
 
 /// How many nodes something is known of, with one more for a prefix, for first characters, and if the tree is easy.
 fn known_facts(alloc: Global, tree: &Expr, unicode: bool) -> Result<usize, AllocError> {
+    let rows = facts(alloc, tree, unicode)?;
+    let prefix = usize::from(prefix_beside(alloc, tree, unicode, &rows)?.is_some());
+    let first = usize::from(beginning_beside(alloc, tree, unicode, &rows)?.is_some());
     let mut known = usize::from(is_easy(tree));
-    for row in facts(alloc, tree, unicode)?.iter() {
+    for row in rows.iter() {
         known = known.saturating_add(usize::from(row.is_some()));
     }
-    let prefix = usize::from(literal_prefix(alloc, tree, unicode)?.is_some());
-    let first = usize::from(first_characters(alloc, tree, unicode)?.is_some());
     Ok(known.saturating_add(prefix).saturating_add(first))
 }
 

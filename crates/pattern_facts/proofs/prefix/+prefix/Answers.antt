@@ -3,10 +3,11 @@ use Rattle.fancy_grammar.specs.Tree.{levels, levels_all, row, trees_of}
 use Rattle.fancy_syntax.proofs.Descents.{levels_item}
 use Rattle.fancy_syntax.proofs.PrintLemmas.{left, left_step, left_end}
 use Rattle.fancy_syntax.specs.View.{view, views}
+use Rattle.pattern_matches.specs.Defined.{AreDefined}
 use Rattle.pattern_facts.specs.Prefix.{HasPrefix, IsPrefix, IsPrefixed}
 use Rattle.pattern_facts.specs.Lengths.{row_of}
 use Rattle.pattern_facts.proofs.ListLemmas.{no_trees_in}
-use Rattle.pattern_facts.proofs.PrefixLemmas.{no_trees_prefix, prefixed_all, prefixed_first}
+use Rattle.pattern_facts.proofs.PrefixLemmas.{no_trees_prefix, prefixed_all, prefixed_first, settled}
 use Rattle.pattern_facts.proofs.prefix.+prefix.Goals as goal
 
 pub prefix_of-returns-in_ok-below-in-Around : goal.prefix_of-returns-in_ok-below-in-Around
@@ -18,9 +19,20 @@ pub prefix_of_list-loop-tree-init : goal.prefix_of_list-loop-tree-init
 prefix_of_list-loop-tree-init t c =
     let more = c.in-Some.more.now in
     let is = (rw c.in-Some.is at c.split_first.ensures.cases).0 in
-    subst (λ xs. IsPrefixed c.args.unicode c.args.kind (trees_of (views xs)) (left more 0) c.in_ok-all.all) (sym is)
-    (prefixed_first c.args.unicode c.args.kind (trees_of (views more)) (view c.in-Some.first.now) c.in_ok-all.all
-    c.in_ok-all.ensures)
+    record {
+      prefixed = subst (λ xs. IsPrefixed c.args.unicode c.args.kind (trees_of (views xs)) (left more 0) c.in_ok-all.all)
+          (sym is) (prefixed_first c.args.unicode c.args.kind (trees_of (views more)) (view c.in-Some.first.now)
+          c.in_ok-all.all c.in_ok-all.ensures);
+      defined = λ known. (subst (λ xs. AreDefined c.args.unicode (trees_of (views xs))) is (c.requires known)).1;
+    }
+
+pub prefix_of_list-prefix_of-requires : goal.prefix_of_list-prefix_of-requires
+prefix_of_list-prefix_of-requires t c =
+    let is = (rw c.in-Some.is at c.split_first.ensures.cases).0 in
+    let same = ap (λ xs. levels_all (trees_of (views xs))) is in (
+      omega (arith, same),
+      λ known. (subst (λ xs. AreDefined c.args.unicode (trees_of (views xs))) is (c.requires known)).0,
+    )
 
 pub prefix_of_list-prefix_of-requires-in-loop-tree : goal.prefix_of_list-prefix_of-requires-in-loop-tree
 prefix_of_list-prefix_of-requires-in-loop-tree t c =
@@ -28,7 +40,10 @@ prefix_of_list-prefix_of-requires-in-loop-tree t c =
     let same = ap (λ xs. levels_all (trees_of (views xs))) is in
     let low : levels (view c.tree-item.result) ≤ levels_all (trees_of (views c.in-Some.more.now)) =
     levels_item c.in-Some.more.now c.loop-tree.tree-index c.tree-item.result c.loop-tree-test.true c.tree-item.is in
-    (omega (arith, low, same), tt)
+    let step = left_step c.in-Some.more.now c.loop-tree.tree-index c.tree-item.result c.loop-tree-test.true c.tree-item.is in (
+      omega (arith, low, same),
+      λ known. (subst (AreDefined c.args.unicode) step (c.loop-tree.invariant.defined known)).0,
+    )
 
 pub prefix_of_list-loop-tree-preserved : goal.prefix_of_list-loop-tree-preserved
 prefix_of_list-loop-tree-preserved t c =
@@ -37,9 +52,19 @@ prefix_of_list-loop-tree-preserved t c =
     let one = c.tree-item.result in
     let all = trees_of (views c.args.trees.now) in
     let step = left_step more i one c.loop-tree-test.true c.tree-item.is in
-    c.in_ok-all-2.ensures c.args.unicode all (left more (i + 1)) (view one)
-    (subst (λ ts. IsPrefixed c.args.unicode c.args.kind all ts c.loop-tree.all) step c.loop-tree.invariant)
-    c.in_ok-next.ensures
+    record {
+      prefixed = c.in_ok-all-2.ensures c.args.unicode all (left more (i + 1)) (view one)
+          (subst (λ ts. IsPrefixed c.args.unicode c.args.kind all ts c.loop-tree.all) step c.loop-tree.invariant.prefixed)
+          c.in_ok-next.ensures;
+      defined = λ known. (subst (AreDefined c.args.unicode) step (c.loop-tree.invariant.defined known)).1;
+    }
+
+pub prefix_of_list-returns-then-is_settled : goal.prefix_of_list-returns-then-is_settled
+prefix_of_list-returns-then-is_settled t c =
+    let all = trees_of (views c.args.trees.now) in
+    settled c.args.unicode c.args.kind all (left c.in-Some.more.now c.loop-tree.tree-index) c.loop-tree.all
+    (c.is_settled.ensures c.if-is_settled.true) (c.loop-tree.invariant.defined c.if-is_known.true)
+    c.loop-tree.invariant.prefixed
 
 pub prefix_of_list-returns-in_default : goal.prefix_of_list-returns-in_default
 prefix_of_list-returns-in_default t c =
@@ -52,4 +77,4 @@ prefix_of_list-returns t c =
     let all = trees_of (views c.args.trees.now) in
     prefixed_all c.args.unicode c.args.kind all c.loop-tree.all
     (subst (λ ts. IsPrefixed c.args.unicode c.args.kind all ts c.loop-tree.all)
-    (left_end c.in-Some.more.now c.loop-tree.tree-index c.loop-tree-test.false) c.loop-tree.invariant)
+    (left_end c.in-Some.more.now c.loop-tree.tree-index c.loop-tree-test.false) c.loop-tree.invariant.prefixed)
