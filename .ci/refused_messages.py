@@ -2,7 +2,8 @@
 `.ci/refused-memory`, where REFUSE is the built `refuse.c`.
 
 The server gets all messages of an exchange at once. It has to answer each request once, with the result that it has without a refusal, or that
-memory ran out; or to end with status 3, after a part of its answers. After a change that is refused it may answer otherwise.
+memory ran out, without an id if the request was not read; or to end with status 3, after a part of its answers. After a message that is not
+done it may answer otherwise.
 """
 import json
 import os
@@ -31,9 +32,10 @@ class Session(NamedTuple):
 def played(program: str, sent: bytes, env: dict) -> Session:
     """What comes of messages."""
     with tempfile.TemporaryDirectory() as folder, tempfile.TemporaryFile() as refused:
-        command = ["bash", "-c", f'exec 9<&{refused.fileno()}; exec "$0" server', program]
-        own = {**os.environ, **env}
-        got = subprocess.run(command, cwd=folder, input=sent, env=own, pass_fds=[refused.fileno()], capture_output=True, check=False)
+        # The shell itself has none of its requests refused.
+        words = ["env", *(f"{name}={value}" for name, value in env.items()), program, "server"]
+        command = ["bash", "-c", f'exec 9<&{refused.fileno()}; exec "$@"', "bash", *words]
+        got = subprocess.run(command, cwd=folder, input=sent, pass_fds=[refused.fileno()], capture_output=True, check=False)
         stream, messages = BytesIO(got.stdout), []
         while (one := message(stream)) is not None:
             messages.append(json.loads(one))
@@ -47,15 +49,18 @@ def answers(session: Session) -> list:
 
 def is_right(got: Session, wanted: Session) -> bool:
     """Whether the session with a refusal is as it has to be."""
-    own, all_answers = answers(got), answers(wanted)
+    own = [it for it in answers(got) if it["id"] is not None]
+    unknown = [it for it in answers(got) if it["id"] is None and it["error"]["code"] == INTERNAL]
+    by_id = {it["id"]: it for it in answers(wanted) if it["id"] is not None}
     ids = [it["id"] for it in own]
-    if ids != [it["id"] for it in all_answers][:len(ids)]:
+    missing = len(by_id) - len(own)
+    if ids != [it for it in by_id if it in ids] or got.status != 3 and missing > len(unknown):
         return False
     if got.status == 3:
         return True
-    is_changed = any(it.get("method") == "window/showMessage" for it in got.messages)
-    same = all(it == other or it.get("error", {}).get("code") == INTERNAL for it, other in zip(own, all_answers))
-    return got.status == wanted.status and len(own) == len(all_answers) and (same or is_changed)
+    is_changed = unknown or any(it.get("method") == "window/showMessage" for it in got.messages)
+    same = all(it == by_id[it["id"]] or it.get("error", {}).get("code") == INTERNAL for it in own)
+    return bool(is_changed) or got.status == wanted.status and same
 
 
 def refused(program: str, library: str, file: Path) -> int:

@@ -26,7 +26,7 @@ use pattern_files::sources::System;
 use pattern_reports::json_lines::fields::{write_number, write_text};
 use patterns_config::choices::Choices;
 use patterns_text::error::RunError;
-use std::alloc::{AllocError, Global};
+use std::alloc::Global;
 use std::collections::BTreeMap;
 use std::io::Write;
 use std::str;
@@ -58,6 +58,9 @@ const NO_DOCUMENT: Refused = Refused {
     code: ErrorCode::InvalidParams,
     reason: "no such document is open",
 };
+
+/// Why a request is refused for which there is not enough memory.
+const OUT_OF_MEMORY: &str = "out of memory";
 
 /// A session.
 #[derive(Drop)]
@@ -141,7 +144,10 @@ impl<'a, S: System, W: Write> Session<'a, S, W> {
         let mut scratch = Scratch::new(alloc);
         match Value::from_slice(alloc, message, &mut scratch) {
             Ok(value) => self.take_value(&value),
-            Err(json::Error::OutOfMemory) => Err(RunError::Memory(AllocError)),
+            Err(json::Error::OutOfMemory) => {
+                self.refuse(None, ErrorCode::Internal, OUT_OF_MEMORY)?;
+                Ok(Flow::GoOn)
+            }
             Err(_) => {
                 self.refuse(None, ErrorCode::Parse, "the message is not JSON")?;
                 Ok(Flow::GoOn)
@@ -182,7 +188,7 @@ impl<'a, S: System, W: Write> Session<'a, S, W> {
             Decision::Refuse(code) => self.refuse(Some(id), code, reason_of(code)),
         };
         match done {
-            Err(RunError::Memory(_)) => self.refuse(Some(id), ErrorCode::Internal, "out of memory"),
+            Err(RunError::Memory(_)) => self.refuse(Some(id), ErrorCode::Internal, OUT_OF_MEMORY),
             done => done,
         }
     }
