@@ -62,7 +62,7 @@ complete -c patterns -n '__fish_seen_subcommand_from lint' -l diff -d 'Writes no
 complete -c patterns -n '__fish_seen_subcommand_from lint' -l format -x -a 'text json github sarif' -d 'How reports are written: as text, which is the default; as json, like --json; as the workflow commands of github; or as sarif, which is SARIF 2.1.0 [possible values: text, json, github, sarif]'
 complete -c patterns -n '__fish_seen_subcommand_from lint' -l json -d 'Writes JSON, one object per line, to standard output'
 complete -c patterns -n '__fish_seen_subcommand_from lint' -s v -l verbose -d 'Writes which parts of patterns are not searched for backtracking'
-complete -c patterns -n '__fish_seen_subcommand_from lint' -l rules -d 'Lists the rules, each with an example and what to do about it, and reads no file'
+complete -c patterns -n '__fish_seen_subcommand_from lint' -l rules -d 'Explains the rules, with an example of each, and reads no file'
 complete -c patterns -n '__fish_seen_subcommand_from lint' -s h -l help -d 'Print help (see a summary with '\''-h'\'')'
 complete -c patterns -n '__fish_seen_subcommand_from format' -l flags -x -d 'The flags to parse under, as letters, or - for none [default: u]'
 complete -c patterns -n '__fish_seen_subcommand_from format' -s e -l regexp -x -d 'A pattern, which may begin with -; can be given several times. Files are read after these patterns, and only if they are named'

@@ -282,7 +282,7 @@ would be left",
     },
     OptionRow {
         id: "rules",
-        help: "Lists the rules, each with an example and what to do about it, and reads no file",
+        help: "Explains the rules, with an example of each, and reads no file",
         ..FLAG
     },
 ];
