@@ -228,10 +228,10 @@ fn end_reports(mut writer: Writer) -> Result<Vec<u8>, AllocError> {
 }
 
 /// Writes what is reported on the patterns of a document.
-fn write_reports(
-    given: Settings<'_>,
-    uri: &str,
-    document: &mut OpenDocument,
+fn write_reports<'d>(
+    given: Settings<'d>,
+    uri: &'d str,
+    document: &'d mut OpenDocument,
     writer: Writer,
 ) -> Result<Writer, RunError> {
     let alloc = given.alloc;

@@ -230,7 +230,7 @@ fn moved(
 
 /// How a file spells its patterns, if it has no records. A text that may not have several lines is left out before.
 fn form_at(spot: Spot<'_>) -> SpelledIn
-    ensures { result ≡ form_at spot }
+    ensures { result ≡ form_at spot.entry }
 {
     match spot {
         Spot::Line(_) => SpelledIn::Lines,

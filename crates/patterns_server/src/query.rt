@@ -351,13 +351,13 @@ fn write_nothing(
 }
 
 /// Writes the answer to a query about what is at the byte offset of a document, or says why there is none.
-pub(crate) fn write_answer(
+pub(crate) fn write_answer<'d>(
     given: Settings<'_>,
-    uri: &str,
+    uri: &'d str,
     document: &OpenDocument,
     offset: usize,
-    query: Query<'_>,
-    writer: &mut Writer,
+    query: Query<'d>,
+    writer: &'d mut Writer,
 ) -> Result<Result<(), Refused>, RunError> {
     let mut walk = QueryWalk {
         alloc: given.alloc,

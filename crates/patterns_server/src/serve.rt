@@ -13,12 +13,12 @@ use std::io::{Read, Write};
 /// Answers the messages of a client until it ends the session or goes away, and returns the exit status: 0 if it asked for
 /// the end, 1 if it went away or its messages cannot be told apart, and 3 if memory runs out between messages or a write
 /// fails.
-pub fn serve<S: System, R: Read, W: Write, E: Write>(
+pub fn serve<'a, S: System, R: Read, W: Write, E: Write>(
     alloc: Global,
-    choices: Choices<'_>,
-    system: &S,
+    choices: Choices<'a>,
+    system: &'a S,
     input: &mut R,
-    out: &mut W,
+    out: &'a mut W,
     err: &mut E,
 ) -> u8
     ensures status { result ≤ 3 }
