@@ -3,7 +3,7 @@ use crate::document::{OpenDocument, Settings};
 use crate::known::KnownPatterns;
 use crate::ranges::{Located, Locator, offset_of_column, write_range};
 use editor_documents::cursor::Cursor;
-use editor_documents::position::Position;
+use editor_documents::position::{Encoding, Position};
 use json::Writer;
 use json_rpc::reply::{begin_notification, finish};
 use lint_rules::rule::Rule;
@@ -129,7 +129,9 @@ fn write_notice(
 /// Writes what is reported on the patterns of a document, one after another.
 #[derive(Drop)]
 struct ReportWalk<'d> {
-    given: Settings<'d>,
+    alloc: Global,
+    /// What positions are counted in.
+    encoding: Encoding,
     uri: &'d str,
     text: &'d str,
     locator: Locator<'d>,
@@ -146,13 +148,7 @@ impl ReportWalk<'_> {
     /// Writes the reports on a pattern.
     fn write(&mut self, located: Located<'_, '_>, reports: &[Report]) -> Result<(), AllocError> {
         for report in reports {
-            write_report(
-                self.given.alloc,
-                &mut self.writer,
-                self.uri,
-                located,
-                report,
-            )?;
+            write_report(self.alloc, &mut self.writer, self.uri, located, report)?;
         }
         self.count = self.count.saturating_add(reports.len());
         Ok(())
@@ -174,9 +170,7 @@ impl Visitor for ReportWalk<'_> {
         self.write(located, &reports)?;
         self.new.push(entry, reports)?;
         if self.count >= MAX_REPORTS {
-            let message = format!(in self.given.alloc;
-                "no more than {MAX_REPORTS} reports are shown"
-            )?;
+            let message = format!(in self.alloc; "no more than {MAX_REPORTS} reports are shown")?;
             write_notice(
                 &mut self.writer,
                 located.start(),
@@ -190,8 +184,8 @@ impl Visitor for ReportWalk<'_> {
     fn unread(&mut self, unread: Unread<'_>) -> Result<(), RunError> {
         let (line, column) = unread.position();
         let offset = offset_of_column(self.text, line, column);
-        let position = Cursor::start(self.given.encoding, self.text).after(offset);
-        let message = format!(in self.given.alloc; "{}", unread.reason)?;
+        let position = Cursor::start(self.encoding, self.text).after(offset);
+        let message = format!(in self.alloc; "{}", unread.reason)?;
         write_notice(
             &mut self.writer,
             position.position(),
@@ -228,10 +222,10 @@ fn end_reports(mut writer: Writer) -> Result<Vec<u8>, AllocError> {
 }
 
 /// Writes what is reported on the patterns of a document.
-fn write_reports<'d>(
-    given: Settings<'d>,
-    uri: &'d str,
-    document: &'d mut OpenDocument,
+fn write_reports(
+    given: Settings<'_>,
+    uri: &str,
+    document: &mut OpenDocument,
     writer: Writer,
 ) -> Result<Writer, RunError> {
     let alloc = given.alloc;
@@ -239,7 +233,8 @@ fn write_reports<'d>(
     let old = mem::replace(&mut document.known, KnownPatterns::none(alloc));
     let text = document.source.text();
     let mut walk = ReportWalk {
-        given,
+        alloc,
+        encoding: given.encoding,
         uri,
         text,
         locator: Locator::new(given.encoding, text),
@@ -251,7 +246,8 @@ fn write_reports<'d>(
     };
     document.source.visit(given, flags, &mut walk)?;
     let ReportWalk {
-        given: _,
+        alloc: _,
+        encoding: _,
         uri: _,
         text: _,
         locator: _,

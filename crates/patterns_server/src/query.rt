@@ -267,10 +267,10 @@ fn write_selection(
 
 /// Answers a query about the pattern at a position.
 #[derive(Drop)]
-struct QueryWalk<'d> {
+struct QueryWalk<'q, 'd> {
     alloc: Global,
-    query: Query<'d>,
-    uri: &'d str,
+    query: Query<'q>,
+    uri: &'q str,
     /// The position, as a byte offset of the document.
     offset: usize,
     locator: Locator<'d>,
@@ -281,7 +281,7 @@ struct QueryWalk<'d> {
     writer: &'d mut Writer,
 }
 
-impl QueryWalk<'_> {
+impl QueryWalk<'_, '_> {
     /// Answers it about the pattern, whose part at the byte offset is asked about.
     fn answer(&mut self, pattern: ReadPattern<'_, '_, '_>, offset: usize) -> Result<(), RunError> {
         let path = pattern.path(self.alloc, offset)?;
@@ -307,7 +307,7 @@ impl QueryWalk<'_> {
     }
 }
 
-impl Visitor for QueryWalk<'_> {
+impl Visitor for QueryWalk<'_, '_> {
     fn pattern(&mut self, entry: Entry<'_>) -> Result<(), RunError> {
         let located = self.locator.locate(entry);
         if self.offset < entry.span.start || entry.span.end < self.offset {
@@ -351,13 +351,13 @@ fn write_nothing(
 }
 
 /// Writes the answer to a query about what is at the byte offset of a document, or says why there is none.
-pub(crate) fn write_answer<'d>(
+pub(crate) fn write_answer<'q>(
     given: Settings<'_>,
-    uri: &'d str,
+    uri: &'q str,
     document: &OpenDocument,
     offset: usize,
-    query: Query<'d>,
-    writer: &'d mut Writer,
+    query: Query<'q>,
+    writer: &mut Writer,
 ) -> Result<Result<(), Refused>, RunError> {
     let mut walk = QueryWalk {
         alloc: given.alloc,
