@@ -231,13 +231,12 @@ fn write_reports(
     let alloc = given.alloc;
     let flags = document.patterns.flags;
     let old = mem::replace(&mut document.known, KnownPatterns::none(alloc));
-    let text = document.source.text();
     let mut walk = ReportWalk {
         alloc,
         encoding: given.encoding,
         uri,
-        text,
-        locator: Locator::new(given.encoding, text),
+        text: document.source.text(),
+        locator: Locator::new(given.encoding, document.source.text()),
         patterns: &mut document.patterns,
         old,
         new: KnownPatterns::none(alloc),
