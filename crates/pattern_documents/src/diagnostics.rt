@@ -128,11 +128,11 @@ fn write_notice(
 
 /// Writes what is reported on the patterns of a document, one after another.
 #[derive(Drop)]
-struct ReportWalk<'d> {
+struct ReportWalk<'u, 'd> {
     alloc: Global,
     /// What positions are counted in.
     encoding: Encoding,
-    uri: &'d str,
+    uri: &'u str,
     text: &'d str,
     locator: Locator<'d>,
     patterns: &'d mut EditedPatterns,
@@ -144,7 +144,7 @@ struct ReportWalk<'d> {
     writer: Writer,
 }
 
-impl ReportWalk<'_> {
+impl ReportWalk<'_, '_> {
     /// Writes the reports on a pattern.
     fn write(&mut self, located: Located<'_, '_>, reports: &[Report]) -> Result<(), AllocError> {
         for report in reports {
@@ -163,7 +163,7 @@ impl ReportWalk<'_> {
     }
 }
 
-impl Visitor for ReportWalk<'_> {
+impl Visitor for ReportWalk<'_, '_> {
     fn pattern(&mut self, entry: Entry<'_>) -> Result<(), RunError> {
         let located = self.locator.locate(entry);
         let reports = self.reports(entry)?;
@@ -231,12 +231,14 @@ fn write_reports(
     let alloc = given.alloc;
     let flags = document.patterns.flags;
     let old = mem::replace(&mut document.known, KnownPatterns::none(alloc));
+    let text = document.source.text();
+    let locator = Locator::new(given.encoding, text);
     let mut walk = ReportWalk {
         alloc,
         encoding: given.encoding,
         uri,
-        text: document.source.text(),
-        locator: Locator::new(given.encoding, document.source.text()),
+        text,
+        locator,
         patterns: &mut document.patterns,
         old,
         new: KnownPatterns::none(alloc),
