@@ -1,9 +1,9 @@
 //! What is reported on the patterns of a document.
 use crate::document::{OpenDocument, Settings};
 use crate::known::KnownPatterns;
-use crate::ranges::{Located, Locator, offset_of_column, write_range};
+use crate::ranges::{Located, Locator, write_range};
 use editor_documents::cursor::Cursor;
-use editor_documents::position::{Encoding, Position};
+use editor_documents::position::Position;
 use json::Writer;
 use json_rpc::reply::{begin_notification, finish};
 use lint_rules::rule::Rule;
@@ -128,12 +128,9 @@ fn write_notice(
 
 /// Writes what is reported on the patterns of a document, one after another.
 #[derive(Drop)]
-struct ReportWalk<'u, 'd> {
+struct ReportWalk<'d> {
     alloc: Global,
-    /// What positions are counted in.
-    encoding: Encoding,
-    uri: &'u str,
-    text: &'d str,
+    uri: &'d str,
     locator: Locator<'d>,
     patterns: &'d mut EditedPatterns,
     /// The patterns before the last change, and those that are there now.
@@ -144,7 +141,7 @@ struct ReportWalk<'u, 'd> {
     writer: Writer,
 }
 
-impl ReportWalk<'_, '_> {
+impl ReportWalk<'_> {
     /// Writes the reports on a pattern.
     fn write(&mut self, located: Located<'_, '_>, reports: &[Report]) -> Result<(), AllocError> {
         for report in reports {
@@ -163,7 +160,7 @@ impl ReportWalk<'_, '_> {
     }
 }
 
-impl Visitor for ReportWalk<'_, '_> {
+impl Visitor for ReportWalk<'_> {
     fn pattern(&mut self, entry: Entry<'_>) -> Result<(), RunError> {
         let located = self.locator.locate(entry);
         let reports = self.reports(entry)?;
@@ -183,12 +180,11 @@ impl Visitor for ReportWalk<'_, '_> {
 
     fn unread(&mut self, unread: Unread<'_>) -> Result<(), RunError> {
         let (line, column) = unread.position();
-        let offset = offset_of_column(self.text, line, column);
-        let position = Cursor::start(self.encoding, self.text).after(offset);
+        let position = self.locator.position(line, column);
         let message = format!(in self.alloc; "{}", unread.reason)?;
         write_notice(
             &mut self.writer,
-            position.position(),
+            position,
             Severity::Error,
             message.as_str(),
         )?;
@@ -231,14 +227,10 @@ fn write_reports(
     let alloc = given.alloc;
     let flags = document.patterns.flags;
     let old = mem::replace(&mut document.known, KnownPatterns::none(alloc));
-    let text = document.source.text();
-    let locator = Locator::new(given.encoding, text);
     let mut walk = ReportWalk {
         alloc,
-        encoding: given.encoding,
         uri,
-        text,
-        locator,
+        locator: Locator::new(given.encoding, document.source.text()),
         patterns: &mut document.patterns,
         old,
         new: KnownPatterns::none(alloc),
@@ -248,9 +240,7 @@ fn write_reports(
     document.source.visit(given, flags, &mut walk)?;
     let ReportWalk {
         alloc: _,
-        encoding: _,
         uri: _,
-        text: _,
         locator: _,
         patterns: _,
         old: _,

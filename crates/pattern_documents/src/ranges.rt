@@ -12,6 +12,8 @@ use std::alloc::AllocError;
 /// Goes through the text of a document from pattern to pattern.
 #[derive(Clone, Copy)]
 pub struct Locator<'d> {
+    /// The start of the text.
+    start: Cursor<'d>,
     cursor: Cursor<'d>,
     /// How many bytes are before it.
     offset: usize,
@@ -20,10 +22,18 @@ pub struct Locator<'d> {
 impl<'d> Locator<'d> {
     /// Before the text.
     pub fn new(encoding: Encoding, text: &'d str) -> Locator<'d> {
+        let start = Cursor::start(encoding, text);
         Locator {
-            cursor: Cursor::start(encoding, text),
+            start,
+            cursor: start,
             offset: 0,
         }
+    }
+
+    /// The position of a column of a line, both counted from 1: the column in characters, and lines by LF.
+    pub(crate) fn position(self, line: u64, column: u64) -> Position {
+        let offset = offset_of_column(self.start.rest(), line, column);
+        self.start.after(offset).position()
     }
 
     /// Goes on to the pattern of an entry, and returns where that is.
@@ -117,7 +127,7 @@ impl Located<'_, '_> {
 }
 
 /// How many bytes of a text are before a column of a line, both counted from 1: the column in characters, and lines by LF.
-pub(crate) fn offset_of_column(text: &str, line: u64, column: u64) -> usize {
+fn offset_of_column(text: &str, line: u64, column: u64) -> usize {
     let mut rest = text;
     for _ in 1..line {
         match rest.split_once('\n') {
