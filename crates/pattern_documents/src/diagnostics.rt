@@ -128,9 +128,9 @@ fn write_notice(
 
 /// Writes what is reported on the patterns of a document, one after another.
 #[derive(Drop)]
-struct ReportWalk<'d> {
+struct ReportWalk<'u, 'd> {
     alloc: Global,
-    uri: &'d str,
+    uri: &'u str,
     locator: Locator<'d>,
     patterns: &'d mut EditedPatterns,
     /// The patterns before the last change, and those that are there now.
@@ -141,7 +141,7 @@ struct ReportWalk<'d> {
     writer: Writer,
 }
 
-impl ReportWalk<'_> {
+impl ReportWalk<'_, '_> {
     /// Writes the reports on a pattern.
     fn write(&mut self, located: Located<'_, '_>, reports: &[Report]) -> Result<(), AllocError> {
         for report in reports {
@@ -160,7 +160,7 @@ impl ReportWalk<'_> {
     }
 }
 
-impl Visitor for ReportWalk<'_> {
+impl Visitor for ReportWalk<'_, '_> {
     fn pattern(&mut self, entry: Entry<'_>) -> Result<(), RunError> {
         let located = self.locator.locate(entry);
         let reports = self.reports(entry)?;
@@ -227,10 +227,11 @@ fn write_reports(
     let alloc = given.alloc;
     let flags = document.patterns.flags;
     let old = mem::replace(&mut document.known, KnownPatterns::none(alloc));
+    let locator = Locator::new(given.encoding, document.source.text());
     let mut walk = ReportWalk {
         alloc,
         uri,
-        locator: Locator::new(given.encoding, document.source.text()),
+        locator,
         patterns: &mut document.patterns,
         old,
         new: KnownPatterns::none(alloc),
