@@ -288,8 +288,8 @@ impl QueryWalk<'_, '_> {
         let Some(node) = path.last().copied() else {
             return Ok(());
         };
-        let (uri, writer) = (self.uri, &mut *self.writer);
-        match self.query {
+        let (query, uri, writer) = (self.query, self.uri, &mut *self.writer);
+        match query {
             Query::Hover => write_hover(pattern, node, writer)?,
             Query::Definition => write_definition(pattern, uri, node, writer)?,
             Query::References { has_group } => {
