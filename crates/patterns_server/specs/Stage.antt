@@ -1,5 +1,5 @@
--- What becomes of requests.
-use Rattle.std.specs.Prelude.{Option, Some, None}
+-- What becomes of requests, and the exit status.
+use Rattle.std.specs.Prelude.{ℕ, Option, Some, None}
 use Rattle.json_rpc.specs.declared.error_code.ErrorCode.TheVariants.{MethodNotFound, NotInitialized, InvalidRequest}
 use Rattle.patterns_server.specs.declared.method.Method.{Method}
 use Rattle.patterns_server.specs.declared.method.Method.TheVariants.{Initialize}
@@ -16,3 +16,8 @@ decision Running None = Refuse MethodNotFound
 decision Running (Some Initialize) = Refuse InvalidRequest
 decision Running (Some m) = Answer m
 decision ShutDown _ = Refuse InvalidRequest
+
+-- the exit status of a session that ends at this stage: 0 if `shutdown` has come
+abbrev pub status_at : Stage → ℕ
+status_at ShutDown = 0
+status_at _ = 1

@@ -1,5 +1,6 @@
 //! What a client and the server have agreed on, the documents that are open, and what becomes of a message.
 ghost use Rattle.std.specs.Prelude.{◌≡◌, ◌≤◌, ℕ, IfOk};
+ghost use Rattle.patterns_server.specs.Stage.{status_at};
 ghost use Rattle.patterns_server.specs.declared.session.Flow.TheVariants.{End};
 
 use crate::asked::{About, Refused, WRONG_PARAMS, asked, offsets};
@@ -95,7 +96,7 @@ impl<'a, S: System, W: Write> Session<'a, S, W> {
 
     /// The exit status if the client goes away, or ends the session: 0 if it asked for that before.
     pub(crate) fn status(&self) -> u8
-        ensures { result ≤ 1 }
+        ensures { result ≡ status_at self.now.stage }
     {
         if self.stage == Stage::ShutDown { 0 } else { 1 }
     }
