@@ -1,5 +1,5 @@
 //! The files of the system, its clock, and what the outputs are.
-use crate::replace::replace;
+use crate::replace::{Draft, replace};
 use pattern_files::sources::{ReplaceError, Sources, System, Terminals};
 use std::env::Env;
 use std::fs::File;
@@ -18,12 +18,26 @@ impl Sources for Host<'_> {
 
     type Input = BufReader<Stdin>;
 
+    type Draft = Draft;
+
     fn open(&self, name: &str) -> io::Result<BufReader<File>> {
         BufReader::new(self.rt.alloc(), fs::open(self.rt, name)?)
     }
 
     fn replace(&self, name: &str, old: &[u8], new: &[u8]) -> Result<(), ReplaceError> {
         replace(self.rt, name, old, new)
+    }
+
+    fn draft(&self, name: &str) -> Result<Draft, ReplaceError> {
+        Draft::begin(self.rt, name)
+    }
+
+    fn settle(&self, draft: Draft, digest: [u8; 32]) -> Result<(), ReplaceError> {
+        draft.settle(self.rt, digest)
+    }
+
+    fn discard(&self, draft: Draft) {
+        draft.discard(self.rt)
     }
 
     fn input(&self) -> io::Result<BufReader<Stdin>> {

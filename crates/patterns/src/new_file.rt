@@ -122,14 +122,31 @@ impl NewFile {
         Ok(())
     }
 
-    /// Gives it the owner, the group and the permissions of the old file, and these bytes, and sees that they are on the disk.
-    pub(crate) fn fill(&self, old: &Metadata, bytes: &[u8]) -> Result<(), ReplaceError> {
+    /// Gives it the owner, the group and the permissions of the old file.
+    pub(crate) fn prepare(&self, old: &Metadata) -> Result<(), ReplaceError> {
         // The owner comes first: permissions are for the owner and the group that the file then has.
         keep_owner(&self.file, old)?;
-        self.file
-            .set_permissions(Permissions::from_mode(old.mode() & MAX_MODE))?;
+        Ok(
+            self.file
+                .set_permissions(Permissions::from_mode(old.mode() & MAX_MODE))?,
+        )
+    }
+
+    /// Adds some of the bytes, and returns how many.
+    pub(crate) fn write(&self, bytes: &[u8]) -> io::Result<usize> {
+        (&self.file).write(bytes)
+    }
+
+    /// Sees that its bytes are on the disk.
+    pub(crate) fn sync(&self) -> io::Result<()> {
+        self.file.sync_all()
+    }
+
+    /// Gives it the owner, the group and the permissions of the old file, and these bytes, and sees that they are on the disk.
+    pub(crate) fn fill(&self, old: &Metadata, bytes: &[u8]) -> Result<(), ReplaceError> {
+        self.prepare(old)?;
         (&self.file).write_all(bytes)?;
-        Ok(self.file.sync_all()?)
+        Ok(self.sync()?)
     }
 
     /// Gives it the name of the old file.

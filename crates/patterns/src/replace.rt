@@ -1,8 +1,9 @@
 //! Writes a file in the place of another, so that a name has the old bytes or the new ones at each time.
 use crate::new_file::NewFile;
 use pattern_files::sources::ReplaceError;
+use sha2::{Digest, Sha256};
 use std::fs::{File, Metadata};
-use std::io::{BufRead, BufReader, ErrorKind};
+use std::io::{BufRead, BufReader, ErrorKind, Write};
 use std::os::unix::fs::MetadataExt;
 use std::{fs, io};
 
@@ -85,11 +86,89 @@ impl OldFile {
         if !has_bytes(rt, &self.file, bytes)? {
             return Ok(false);
         }
+        self.is_found(rt)
+    }
+
+    /// Whether its path still leads to it, unchanged since it was opened.
+    fn is_found(&self, rt: &HostRuntime) -> io::Result<bool> {
         match fs::symlink_metadata(rt, self.path.as_str()) {
             Ok(now) => Ok(is_same(&self.metadata, &now)),
             Err(error) if error.kind() == ErrorKind::NotFound => Ok(false),
             Err(error) => Err(error),
         }
+    }
+}
+
+/// The SHA-256 digest of what is left to read of a file.
+fn digest_of(rt: &HostRuntime, file: &File) -> io::Result<[u8; 32]> {
+    let mut reader = BufReader::new(rt.alloc(), file)?;
+    let mut hasher = Sha256::new();
+    for _ in 0..u64::MAX {
+        let found = match reader.fill_buf() {
+            Ok(found) => found,
+            Err(error) if error.kind() == ErrorKind::Interrupted => continue,
+            Err(error) => return Err(error),
+        };
+        if found.is_empty() {
+            break;
+        }
+        hasher.update(found);
+        let length = found.len();
+        reader.consume(length);
+    }
+    Ok(hasher.finalize())
+}
+
+/// A new file beside the one that it is to replace, to which bytes are added.
+#[derive(Drop)]
+pub(crate) struct Draft {
+    old: OldFile,
+    new: NewFile,
+}
+
+impl Write for Draft {
+    fn write(&mut self, bytes: &[u8]) -> io::Result<usize> {
+        self.new.write(bytes)
+    }
+
+    fn flush(&mut self) -> io::Result<()> {
+        Ok(())
+    }
+}
+
+impl Draft {
+    /// Begins one for the file of this name, with its owner, its group and its permissions, of these at most 0777.
+    pub(crate) fn begin(rt: &HostRuntime, name: &str) -> Result<Draft, ReplaceError> {
+        let old = OldFile::open(rt, name)?;
+        let new = NewFile::create(rt, old.path.as_str())?;
+        if let Err(error) = new.prepare(&old.metadata) {
+            let _ = new.remove(rt);
+            return Err(error);
+        }
+        Ok(Draft { old, new })
+    }
+
+    /// Renames it if the old file has this digest and was not changed.
+    fn exchange(&self, rt: &HostRuntime, digest: [u8; 32]) -> Result<(), ReplaceError> {
+        self.new.sync()?;
+        if digest_of(rt, &self.old.file)? != digest || !self.old.is_found(rt)? {
+            return Err(ReplaceError::Changed);
+        }
+        Ok(self.new.rename(rt, self.old.path.as_str())?)
+    }
+
+    /// The same. After an error it is removed.
+    pub(crate) fn settle(self, rt: &HostRuntime, digest: [u8; 32]) -> Result<(), ReplaceError> {
+        let settled = self.exchange(rt, digest);
+        if settled.is_err() {
+            self.discard(rt);
+        }
+        settled
+    }
+
+    /// Removes it.
+    pub(crate) fn discard(self, rt: &HostRuntime) {
+        let _ = self.new.remove(rt);
     }
 }
 

@@ -6,6 +6,7 @@ mod canonical;
 mod change;
 mod changes;
 mod check;
+mod draft;
 pub mod draw;
 mod groups;
 pub mod job;

@@ -52,6 +52,8 @@ impl<'a> Sources for Memory<'a> {
 
     type Input = &'a [u8];
 
+    type Draft = Vec<u8>;
+
     fn open(&self, name: &str) -> io::Result<Chain<&'static [u8], End>> {
         for (known, bytes) in FILES.iter() {
             if *known == name {
@@ -74,6 +76,17 @@ impl<'a> Sources for Memory<'a> {
         }
         Err(ReplaceError::from(io::Error::from(ErrorKind::StorageFull)))
     }
+
+    /// No file is so large that one is begun.
+    fn draft(&self, _name: &str) -> Result<Vec<u8>, ReplaceError> {
+        Err(ReplaceError::from(io::Error::from(ErrorKind::StorageFull)))
+    }
+
+    fn settle(&self, _draft: Vec<u8>, _digest: [u8; 32]) -> Result<(), ReplaceError> {
+        Err(ReplaceError::Changed)
+    }
+
+    fn discard(&self, _draft: Vec<u8>) {}
 
     fn input(&self) -> io::Result<&'a [u8]> {
         Ok(self.input)
