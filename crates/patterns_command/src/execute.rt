@@ -22,6 +22,7 @@ use patterns_program::draw::draw_tree;
 use patterns_program::job::{Command, Job, Output};
 use patterns_program::pattern_flags::flags_of_pattern;
 use patterns_program::run::run;
+use patterns_server::serve::serve;
 use patterns_text::error::{RunError, give_up};
 use patterns_text::paint::Paints;
 use patterns_text::subject::Subject;
@@ -68,6 +69,8 @@ enum Request<'m> {
     Files(Job<'m>, &'m [&'m str]),
     /// One pattern, which is drawn.
     Pattern(PatternVerb, Choices<'m>),
+    /// An editor is served.
+    Server(Choices<'m>),
 }
 
 /// That the arguments are wrong.
@@ -129,6 +132,7 @@ fn request_of<'m>(
             }
         }
         Verb::Pattern(verb) => Ok(Request::Pattern(verb, choices)),
+        Verb::Server => Ok(Request::Server(choices)),
     }
 }
 
@@ -204,6 +208,20 @@ fn draw_chosen<S: System, O: Write, E: Write>(
     Ok(draw(verb, subject, matches, out, err))
 }
 
+/// Serves the editor that writes to the standard input, and returns the exit status.
+fn serve_input<S: System, O: Write, E: Write>(
+    alloc: Global,
+    choices: Choices<'_>,
+    sources: &S,
+    out: &mut O,
+    err: &mut E,
+) -> Result<u8, RunError>
+    ensures status { IfOk result (λ status. status ≤ 3) }
+{
+    let mut input = sources.input()?;
+    Ok(serve(alloc, choices, sources, &mut input, out, err))
+}
+
 /// The command line with the arguments.
 fn parsed<'a>(
     alloc: Global,
@@ -244,6 +262,7 @@ fn execute_words<S: System, O: Write, E: Write>(
         Ok(Request::Pattern(verb, choices)) => {
             draw_chosen(alloc, verb, choices, chosen, sources, out, err)
         }
+        Ok(Request::Server(choices)) => serve_input(alloc, choices, sources, out, err),
         Err(reason) => explain(reason, out, err),
     }
 }

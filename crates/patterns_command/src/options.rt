@@ -361,3 +361,16 @@ as ranges, of which only the first are written",
     },
     JSON,
 ];
+
+/// Those of `server`.
+pub(crate) static SERVER_OPTIONS: [OptionRow; 4] = [
+    FLAGS,
+    OptionRow {
+        id: "null-data",
+        short: Some('z'),
+        help: "Each document is one pattern, which may have several lines",
+        ..FLAG
+    },
+    CONFIG,
+    NO_CONFIG,
+];

@@ -110,10 +110,6 @@ impl<S: System, O: Write, E: Write> Visitor for FileRun<'_, '_, S, O, E> {
         self.work.write_bom()?;
         Ok(())
     }
-
-    fn is_done(&self) -> bool {
-        false
-    }
 }
 
 impl<'a, S: System, O: Write, E: Write> FileRun<'a, '_, S, O, E> {
