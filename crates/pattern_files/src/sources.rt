@@ -42,7 +42,7 @@ pub trait Sources {
     type File: BufRead + Drop;
     /// The standard input.
     type Input: BufRead + Drop;
-    /// A file that is written to take the place of another.
+    /// A file that is written to take the place of another. If it is dropped, it is removed.
     type Draft: Write + Drop;
 
     /// Opens the file of this name.
@@ -52,15 +52,16 @@ pub trait Sources {
     /// is as it was. It is an error if it does not have the old bytes any more.
     fn replace(&self, name: &str, old: &[u8], new: &[u8]) -> Result<(), ReplaceError>;
 
-    /// Begins a file that is to take the place of the one of this name. It is empty. It is an error if that cannot be replaced.
+    /// How many bytes the file of this name has, if that is known.
+    fn size(&self, name: &str) -> Option<u64>;
+
+    /// Begins a file that is to take the place of the one of this name. It is empty. It is an error if that one cannot be
+    /// replaced.
     fn draft(&self, name: &str) -> Result<Self::Draft, ReplaceError>;
 
-    /// Puts the draft in the place of the file that it was begun for, whose bytes have this SHA-256 digest. After an error that file is as
-    /// it was, and the draft is removed. It is an error if the bytes have not this digest any more.
+    /// Puts the draft in the place of the file that it was begun for. After an error that file is as it was. It is an error if
+    /// its bytes do not have this SHA-256 digest.
     fn settle(&self, draft: Self::Draft, digest: [u8; 32]) -> Result<(), ReplaceError>;
-
-    /// Removes the draft.
-    fn discard(&self, draft: Self::Draft);
 
     /// The standard input, from its position on.
     fn input(&self) -> io::Result<Self::Input>;

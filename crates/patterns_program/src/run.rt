@@ -34,13 +34,13 @@ use patterns_text::subject::ARGUMENT;
 use source_literals::replaced::{Replacement, replaced};
 use std::alloc::{AllocError, Global};
 use std::io;
-use std::io::{BufRead, ErrorKind, Read, Write};
+use std::io::{BufRead, ErrorKind, Write};
 
 /// Why `format` does not read a file that a configuration says is JSON, if it is to write patterns to standard output.
 const NO_VALUES: &str = "patterns.toml says that it is JSON, which format writes only with --write";
 
-/// How many bytes a file has at least that is written while it is read.
-const LARGE: usize = 1_048_576;
+/// How many bytes a file of lines has at least that is written while it is read.
+const LARGE: u64 = 1 << 20;
 
 /// A run over files.
 #[derive(Drop)]
@@ -56,13 +56,13 @@ pub(crate) struct FileRun<'a, 'p, S: Sources, O, E> {
     /// Under which keys of the arguments there are patterns.
     used_keys: UsedKeys<'a>,
     /// What the patterns of the file are so far.
-    outcome: Outcome,
+    pub(crate) outcome: Outcome,
     /// Whether what is to be written is held back until the changes of the file are made.
-    is_held: bool,
-    /// How many bytes the file has that is read, if it is read whole.
-    size: Option<usize>,
-    /// The file that is written while it is read.
-    draft: Option<LineDraft<S::Draft>>,
+    pub(crate) is_held: bool,
+    /// How many bytes the file has that is read, if that is known.
+    pub(crate) size: Option<usize>,
+    /// What is to take the place of the file that is read.
+    pub(crate) draft: Option<LineDraft<S::Draft>>,
 }
 
 impl<S: System, O: Write, E: Write> Visitor for FileRun<'_, '_, S, O, E> {
@@ -75,7 +75,7 @@ impl<S: System, O: Write, E: Write> Visitor for FileRun<'_, '_, S, O, E> {
     {
         self.used_keys.add(entry.key)?;
         let found = self.work.process(entry)?;
-        self.add_to_draft(entry)?;
+        self.add_to_draft(entry);
         self.outcome = self.outcome.and(found);
         self.put_unless_held()?;
         self.work.tally.add(found);
@@ -87,13 +87,8 @@ impl<S: System, O: Write, E: Write> Visitor for FileRun<'_, '_, S, O, E> {
 
     fn unread(&mut self, unread: Unread<'_>) -> Result<(), RunError> {
         self.outcome = Outcome::Unread;
+        self.add_unread(unread.line);
         writeln!(self.work.reported.err, "{unread}")?;
-        if let Some(draft) = &mut self.draft {
-            match unread.line {
-                Some(line) => draft.push(line.text, line.text, line.end)?,
-                None => draft.break_off(),
-            }
-        }
         if let (Output::Patterns, Some(line)) = (self.work.job.output, unread.line) {
             self.work.end_last(line.end)?;
             let out = &mut self.work.shown.out;
@@ -105,7 +100,7 @@ impl<S: System, O: Write, E: Write> Visitor for FileRun<'_, '_, S, O, E> {
 
     fn bom(&mut self) -> Result<(), RunError> {
         if let Some(draft) = &mut self.draft {
-            draft.push(BOM, BOM, b"")?;
+            draft.keep(BOM, b"");
         }
         self.work.write_bom()?;
         Ok(())
@@ -114,7 +109,7 @@ impl<S: System, O: Write, E: Write> Visitor for FileRun<'_, '_, S, O, E> {
 
 impl<'a, S: System, O: Write, E: Write> FileRun<'a, '_, S, O, E> {
     /// Writes what the work has written so far.
-    fn put(&mut self) -> Result<(), RunError>
+    pub(crate) fn put(&mut self) -> Result<(), RunError>
         ensures job { self.new.work.job ≡ self.old.work.job }
         ensures flags { self.new.work.flags ≡ self.old.work.flags }
         ensures outcome { self.new.outcome ≡ self.old.outcome }
@@ -149,7 +144,11 @@ impl<'a, S: System, O: Write, E: Write> FileRun<'a, '_, S, O, E> {
     }
 
     /// Does the work on each pattern of a reader, in one pass, and returns the outcome.
-    fn pass<R: BufRead>(&mut self, file: &str, reader: &mut R) -> Result<Outcome, RunError> {
+    pub(crate) fn pass<R: BufRead>(
+        &mut self,
+        file: &str,
+        reader: &mut R,
+    ) -> Result<Outcome, RunError> {
         let form = match self.configured {
             Some(keys) => FileFormat::Values(keys),
             None => self.work.job.choices.form,
@@ -174,11 +173,11 @@ impl<'a, S: System, O: Write, E: Write> FileRun<'a, '_, S, O, E> {
     /// reported.
     pub(crate) fn replace(&mut self, file: &str, old: &[u8], new: &[u8]) -> Result<bool, RunError> {
         let replaced = self.sources.replace(file, old, new);
-        self.write_not_replaced(file, replaced)
+        self.see_replaced(file, replaced)
     }
 
     /// Returns whether a file was replaced; if not, it is reported.
-    fn write_not_replaced(
+    pub(crate) fn see_replaced(
         &mut self,
         file: &str,
         replaced: Result<(), ReplaceError>,
@@ -291,149 +290,48 @@ impl<'a, S: System, O: Write, E: Write> FileRun<'a, '_, S, O, E> {
         Ok(found.and(outcome))
     }
 
-    /// Adds the line of an entry, as it is now, to the file that is written.
-    fn add_to_draft(&mut self, entry: Entry<'_>) -> Result<(), AllocError>
-        ensures job { self.new.work.job ≡ self.old.work.job }
-        ensures flags { self.new.work.flags ≡ self.old.work.flags }
-        ensures outcome { self.new.outcome ≡ self.old.outcome }
-    {
-        let Some(draft) = &mut self.draft else {
-            return Ok(());
-        };
-        let parts = self.work.changes.take_parts(self.work.alloc);
-        let old = entry.pattern.as_bytes();
-        let Some(part) = parts.first() else {
-            return draft.push(old, old, entry.end);
-        };
-        draft.count_changed();
-        draft.push(old, part.text.as_bytes(), entry.end)
-    }
-
-    /// Does the work on each pattern of a file that has these bytes, and makes the changes. What is written is held back until
-    /// then.
-    fn process_bytes(&mut self, file: &str, bytes: &[u8]) -> Result<Outcome, RunError> {
+    /// Does the work on each pattern of a reader, and makes the changes. What is written is held back until then.
+    fn process_whole<R: BufRead>(
+        &mut self,
+        file: &str,
+        reader: &mut R,
+    ) -> Result<Outcome, RunError> {
+        let mut bytes = Vec::new(self.work.alloc);
+        if let Err(error) = reader.read_to_end(&mut bytes) {
+            return self.write_unread(file, error);
+        }
         self.is_held = true;
         self.size = Some(bytes.len());
-        let outcome = self.pass_and_change(file, bytes)?;
+        let outcome = self.pass_and_change(file, &bytes)?;
         self.is_held = false;
         self.size = None;
         self.put()?;
         Ok(outcome)
     }
 
-    /// Does the work on each pattern of a reader, of which the start is read already, and makes the changes.
-    fn process_whole<R: BufRead>(
-        &mut self,
-        file: &str,
-        start: Vec<u8>,
-        reader: &mut R,
-    ) -> Result<Outcome, RunError> {
-        let mut bytes = start;
-        if let Err(error) = reader.read_to_end(&mut bytes) {
-            return self.write_unread(file, error);
-        }
-        self.process_bytes(file, &bytes)
-    }
-
-    /// Does the work again on each pattern of a file, with the patterns as they are.
-    fn process_kept(&mut self, file: &str) -> Result<Outcome, RunError> {
-        match self.sources.open(file) {
-            Ok(mut opened) => {
-                let found = self.pass(file, &mut opened)?;
-                // It was said before why patterns stay.
-                self.work.shown.err.clear();
-                Ok(found.and(Outcome::Unread))
-            }
-            Err(error) => self.write_unread(file, error),
-        }
-    }
-
-    /// Puts what was written in the place of the file, and returns whether that can be done; if not, it is reported. A file without changes
-    /// is not written.
-    fn settle(&mut self, file: &str, draft: LineDraft<S::Draft>) -> Result<bool, RunError> {
-        let end = draft.end();
-        if end.is_broken || end.changed == 0 {
-            self.sources.discard(end.file);
-            return Ok(!end.is_broken || end.changed == 0);
-        }
-        let settled = match end.error {
-            Some(error) => {
-                self.sources.discard(end.file);
-                Err(ReplaceError::System(error))
-            }
-            None => self.sources.settle(end.file, end.digest),
-        };
-        if !self.write_not_replaced(file, settled)? {
-            return Ok(false);
-        }
-        self.write_written(file, end.changed)?;
-        Ok(true)
-    }
-
-    /// Does the work on each pattern of a large file of lines, whose new lines go to the draft while it is read. What is to be reported is
-    /// held back until the draft is in its place.
-    fn process_large<R: BufRead>(
-        &mut self,
-        file: &str,
-        draft: S::Draft,
-        reader: &mut R,
-    ) -> Result<Outcome, RunError> {
-        let met = self.work.met();
-        self.is_held = true;
-        self.draft = Some(LineDraft::new(self.work.alloc, draft));
-        let passed = self.pass(file, reader);
-        let Some(draft) = self.draft.take() else {
-            return passed;
-        };
-        let found = match passed {
-            Ok(found) => found,
-            Err(error) => {
-                self.sources.discard(draft.end().file);
-                return Err(error);
-            }
-        };
-        self.screen.err.write_all(&self.work.shown.err)?;
-        self.work.shown.err.clear();
-        let outcome = if self.settle(file, draft)? {
-            found
-        } else {
-            self.work.take_back(met, Kept::All);
-            self.process_kept(file)?
-        };
-        self.is_held = false;
-        self.put()?;
-        Ok(outcome)
-    }
-
-    /// Whether a file is one of lines that `format` writes.
-    fn writes_lines_of(&self, file: &str) -> bool {
-        let job = self.work.job;
+    /// Whether a file has lines that are written to it.
+    fn writes_lines_to(&self, file: &str) -> bool {
         let has_lines = self.configured.is_none()
-            && matches!(job.choices.form, FileFormat::Records(_));
-        let is_written = matches!(job.output, Output::Files { .. }) && file != STANDARD_INPUT;
-        job.command == Command::Format && has_lines && is_written
+            && matches!(self.work.job.choices.form, FileFormat::Records(_));
+        has_lines && self.work.job.writes_files() && file != STANDARD_INPUT
     }
 
-    /// Does the work on each pattern of a reader, and makes the changes: of a large file of lines while it is read, and of others when
-    /// they are read.
+    /// Does the work on each pattern of a reader, and makes the changes: of a large file of lines while it is read, and of another
+    /// when it is read.
     fn process_and_change<R: BufRead>(
         &mut self,
         file: &str,
         reader: &mut R,
     ) -> Result<Outcome, RunError> {
-        let mut start = Vec::new(self.work.alloc);
-        if self.writes_lines_of(file) {
-            if let Err(error) = reader.take(LARGE as u64).read_to_end(&mut start) {
-                return self.write_unread(file, error);
-            }
-            // If a file cannot be replaced, that is reported only if a pattern changes.
-            if start.len() >= LARGE
-                && let Ok(draft) = self.sources.draft(file)
-            {
-                return self.process_large(file, draft, &mut start.as_slice().chain(reader));
-            }
+        if self.writes_lines_to(file)
+            && let Some(size) = self.sources.size(file)
+            && size >= LARGE
+            // If it cannot be replaced, that is reported only if a pattern changes.
+            && let Ok(draft) = self.sources.draft(file)
+        {
+            return self.process_with_draft(file, size, draft, reader);
         }
-        self.process_whole(file, start, reader)
+        self.process_whole(file, reader)
     }
 
     /// Does the work on each pattern of a reader.
