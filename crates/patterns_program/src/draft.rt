@@ -107,10 +107,11 @@ impl<S: System, O: Write, E: Write> FileRun<'_, '_, S, O, E> {
         ensures flags { self.new.work.flags ≡ self.old.work.flags }
         ensures outcome { self.new.outcome ≡ self.old.outcome }
     {
+        let alloc = self.work.alloc;
         let Some(draft) = &mut self.draft else {
             return;
         };
-        let parts = self.work.changes.take_parts(self.work.alloc);
+        let parts = self.work.changes.take_parts(alloc);
         let line = entry.pattern.as_bytes();
         match parts.first() {
             Some(part) => draft.change(line, part.text.as_bytes(), entry.end),
