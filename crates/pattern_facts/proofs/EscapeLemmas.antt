@@ -115,28 +115,32 @@ up_to_four t set is low high small big bound a b = record {
 pub digit_long : (casei : Bool) → IsCharacterOf true (delegate (codes "\\d") casei) 1 4
 unfolding ucd_perl
 digit_long casei =
-    let is = matches_one (class_config true casei) (codes "\\d") is_digit_char (digit_read casei) in
-    ((members is_digit_char, is),
-    up_to_four (delegate (codes "\\d") casei) is_digit_char is 0x30 0x1_D7CE (omega arith) (omega arith) (omega arith) refl refl)
+    let is = matches_one (class_config true casei) (codes "\\d") is_digit_char (digit_read casei) in (
+      (members is_digit_char, is),
+      up_to_four (delegate (codes "\\d") casei) is_digit_char is 0x30 0x1_D7CE (omega arith) (omega arith) (omega arith) refl refl,
+    )
 
 pub word_long : (casei : Bool) → IsCharacterOf true (delegate (codes "\\w") casei) 1 4
 unfolding ucd_perl
 word_long casei =
-    let is = matches_one (class_config true casei) (codes "\\w") is_word_char (word_read casei) in
-    ((members is_word_char, is),
-    up_to_four (delegate (codes "\\w") casei) is_word_char is 0x61 0x1_0000 (omega arith) (omega arith) (omega arith) refl refl)
+    let is = matches_one (class_config true casei) (codes "\\w") is_word_char (word_read casei) in (
+      (members is_word_char, is),
+      up_to_four (delegate (codes "\\w") casei) is_word_char is 0x61 0x1_0000 (omega arith) (omega arith) (omega arith) refl refl,
+    )
 
 pub space_long : (casei : Bool) → IsCharacterOf true (delegate (codes "\\s") casei) 1 3
 space_long casei =
     let is = matches_one (class_config true casei) (codes "\\s") is_space_char (space_read casei) in
-    let t = delegate (codes "\\s") casei in
-    ((members is_space_char, is), record {
-      within = λ c k. ((len_utf8_bounds c).0, space_bytes c (member_of t is_space_char is c k));
-      reached = inl (
-        (0x20, has_member t is_space_char is 0x20 (omega arith) refl space_low, refl),
-        (0x3000, has_member t is_space_char is 0x3000 (omega arith) refl space_high, refl),
-      );
-    })
+    let t = delegate (codes "\\s") casei in (
+      (members is_space_char, is),
+      record {
+        within = λ c k. ((len_utf8_bounds c).0, space_bytes c (member_of t is_space_char is c k));
+        reached = inl (
+          (0x20, has_member t is_space_char is 0x20 (omega arith) refl space_low, refl),
+          (0x3000, has_member t is_space_char is 0x3000 (omega arith) refl space_high, refl),
+        );
+      },
+    )
 
 -- the characters that are not in a set
 but : Bool → Set → Set
@@ -150,19 +154,21 @@ pub no_digit_long : (casei : Bool) → IsCharacterOf true (delegate (codes "\\D"
 unfolding ucd_perl but
 no_digit_long casei =
     let set = but casei is_digit_char in
-    let is = matches_one (class_config true casei) (codes "\\D") set (no_digit_read casei) in
-    ((members set, is),
-    up_to_four (delegate (codes "\\D") casei) set is 0x61 0x1_0000 (omega arith) (omega arith) (omega arith)
-    (but_it casei is_digit_char 0x61 (omega arith) refl) (but_it casei is_digit_char 0x1_0000 (omega arith) refl))
+    let is = matches_one (class_config true casei) (codes "\\D") set (no_digit_read casei) in (
+      (members set, is),
+      up_to_four (delegate (codes "\\D") casei) set is 0x61 0x1_0000 (omega arith) (omega arith) (omega arith)
+          (but_it casei is_digit_char 0x61 (omega arith) refl) (but_it casei is_digit_char 0x1_0000 (omega arith) refl),
+    )
 
 pub no_word_long : (casei : Bool) → IsCharacterOf true (delegate (codes "\\W") casei) 1 4
 unfolding ucd_perl but
 no_word_long casei =
     let set = but casei is_word_char in
-    let is = matches_one (class_config true casei) (codes "\\W") set (no_word_read casei) in
-    ((members set, is),
-    up_to_four (delegate (codes "\\W") casei) set is 0x20 0x1_F600 (omega arith) (omega arith) (omega arith)
-    (but_it casei is_word_char 0x20 (omega arith) refl) (but_it casei is_word_char 0x1_F600 (omega arith) refl))
+    let is = matches_one (class_config true casei) (codes "\\W") set (no_word_read casei) in (
+      (members set, is),
+      up_to_four (delegate (codes "\\W") casei) set is 0x20 0x1_F600 (omega arith) (omega arith) (omega arith)
+          (but_it casei is_word_char 0x20 (omega arith) refl) (but_it casei is_word_char 0x1_F600 (omega arith) refl),
+    )
 
 no_space : (c : ℕ) → 0x3000 < c → is_space_char c ≡ false
 no_space c h = by_value (is_space_char c) refl
@@ -175,11 +181,12 @@ pub no_space_long : (casei : Bool) → IsCharacterOf true (delegate (codes "\\S"
 unfolding but
 no_space_long casei =
     let set = but casei is_space_char in
-    let is = matches_one (class_config true casei) (codes "\\S") set (no_space_read casei) in
-    ((members set, is),
-    up_to_four (delegate (codes "\\S") casei) set is 0x61 0x1_0000 (omega arith) (omega arith) (omega arith)
-    (but_it casei is_space_char 0x61 (omega arith) letter_no_space)
-    (but_it casei is_space_char 0x1_0000 (omega arith) (no_space 0x1_0000 (omega arith))))
+    let is = matches_one (class_config true casei) (codes "\\S") set (no_space_read casei) in (
+      (members set, is),
+      up_to_four (delegate (codes "\\S") casei) set is 0x61 0x1_0000 (omega arith) (omega arith) (omega arith)
+          (but_it casei is_space_char 0x61 (omega arith) letter_no_space)
+          (but_it casei is_space_char 0x1_0000 (omega arith) (no_space 0x1_0000 (omega arith))),
+    )
 
 -- ---- dots
 
@@ -207,10 +214,11 @@ dot_high false false = refl
 pub dot_long : (newline crlf : Bool) → IsCharacterOf true (any newline crlf) 1 4
 dot_long newline crlf =
     let set = negate (dot_config true newline crlf) (ends newline crlf) in
-    let is = matches_one (dot_config true newline crlf) (codes ".") set (dot_read newline crlf) in
-    ((members set, is),
-    up_to_four (any newline crlf) set is 0x61 0x1_0000 (omega arith) (omega arith) (omega arith) (dot_low newline crlf)
-    (dot_high newline crlf))
+    let is = matches_one (dot_config true newline crlf) (codes ".") set (dot_read newline crlf) in (
+      (members set, is),
+      up_to_four (any newline crlf) set is 0x61 0x1_0000 (omega arith) (omega arith) (omega arith) (dot_low newline crlf)
+          (dot_high newline crlf),
+    )
 
 -- ---- the code's nodes
 
