@@ -28,13 +28,13 @@ pub(crate) enum Stage {
 
 /// How many nodes something is known of, with one more for a prefix, for first characters, and if the tree is easy.
 fn known_facts(alloc: Global, tree: &Expr, unicode: bool) -> Result<usize, AllocError> {
-    let mut known = usize::from(is_easy(tree));
     let rows = facts(alloc, tree, unicode)?;
+    let prefix = usize::from(prefix_beside(alloc, tree, unicode, &rows)?.is_some());
+    let first = usize::from(beginning_beside(alloc, tree, unicode, &rows)?.is_some());
+    let mut known = usize::from(is_easy(tree));
     for row in rows.iter() {
         known = known.saturating_add(usize::from(row.is_some()));
     }
-    let prefix = usize::from(prefix_beside(alloc, tree, unicode, &rows)?.is_some());
-    let first = usize::from(beginning_beside(alloc, tree, unicode, &rows)?.is_some());
     Ok(known.saturating_add(prefix).saturating_add(first))
 }
 
