@@ -2,7 +2,7 @@
 _patterns() {
     local word=${COMP_WORDS[COMP_CWORD]} before=${COMP_WORDS[COMP_CWORD - 1]} options=
     if ((COMP_CWORD == 1)); then
-        mapfile -t COMPREPLY < <(compgen -W 'check tree picture lint format groups help --help --version' -- "$word")
+        mapfile -t COMPREPLY < <(compgen -W 'check tree picture lint format groups server help --help --version' -- "$word")
         return
     fi
     case $before in
@@ -18,7 +18,8 @@ _patterns() {
         lint) options='--flags -e --regexp -z --null-data --lines -q --quiet --color --config --no-config --textmate --keys --records --allow --warn --deny --dialect --max-warnings --fix --diff --format --json -v --verbose --rules -h --help' ;;
         format) options='--flags -e --regexp -z --null-data --lines -q --quiet --color --config --no-config --textmate --keys --records --write --check --diff -v --verbose --width --compact --canonical --drop-comments -h --help' ;;
         groups) options='--flags -e --regexp -z --null-data --lines -q --quiet --color --config --no-config --textmate --keys --records --classes --json -h --help' ;;
-        help) options='check tree picture lint format groups' ;;
+        server) options='--flags -z --null-data --config --no-config -h --help' ;;
+        help) options='check tree picture lint format groups server' ;;
     esac
     case $word in
         -*) mapfile -t COMPREPLY < <(compgen -W "$options" -- "$word") ;;

@@ -107,6 +107,15 @@ impl<'a> Unread<'a> {
         }
     }
 
+    /// The line and the column from which it is not read, as far as that is known.
+    pub fn position(&self) -> (u64, u64) {
+        match self.reason {
+            UnreadReason::NotText(line) | UnreadReason::NotRecord(line, _) => (line, 1),
+            UnreadReason::NotJson(refusal) => (refusal.line, refusal.column),
+            UnreadReason::System(_) | UnreadReason::TooLong => (1, 1),
+        }
+    }
+
     /// A file that is no text: its bytes are UTF-8 up to the offset.
     pub fn not_text(file: &'a str, bytes: &[u8], valid_up_to: usize) -> Unread<'a> {
         Unread::of_file(file, UnreadReason::not_text(bytes, valid_up_to))
@@ -120,17 +129,30 @@ impl UnreadReason {
     }
 }
 
+impl fmt::Display for UnreadReason {
+    fn fmt<W: fmt::Write>(&self, f: &mut fmt::Formatter<W>) -> fmt::Result {
+        match self {
+            UnreadReason::System(error) => write!(f, "{error}"),
+            UnreadReason::NotText(_) => f.write_str("the line is not valid UTF-8"),
+            UnreadReason::NotJson(refusal) => write!(f, "{refusal}"),
+            UnreadReason::TooLong => write!(f, "JSON of more than {MAX_LEN} bytes"),
+            UnreadReason::NotRecord(_, refusal) => write!(f, "{refusal}"),
+        }
+    }
+}
+
 impl fmt::Display for Unread<'_> {
     fn fmt<W: fmt::Write>(&self, f: &mut fmt::Formatter<W>) -> fmt::Result {
-        let file = Shown(self.file);
-        match &self.reason {
-            UnreadReason::System(error) => write!(f, "patterns: {file}: {error}"),
-            UnreadReason::NotText(line) => write!(f, "{file}:{line}: the line is not valid UTF-8"),
-            UnreadReason::NotJson(refusal) => write!(f, "{file}:{refusal}"),
-            UnreadReason::TooLong => {
-                write!(f, "patterns: {file}: JSON of more than {MAX_LEN} bytes")
+        let (file, reason) = (Shown(self.file), &self.reason);
+        match reason {
+            UnreadReason::System(_) | UnreadReason::TooLong => {
+                write!(f, "patterns: {file}: {reason}")
             }
-            UnreadReason::NotRecord(line, refusal) => write!(f, "{file}:{line}:{refusal}"),
+            UnreadReason::NotText(line) => write!(f, "{file}:{line}: {reason}"),
+            UnreadReason::NotJson(refusal) => {
+                write!(f, "{file}:{}:{}: {reason}", refusal.line, refusal.column)
+            }
+            UnreadReason::NotRecord(line, _) => write!(f, "{file}:{line}:{reason}"),
         }
     }
 }
@@ -141,11 +163,17 @@ pub trait Visitor {
     fn pattern(&mut self, entry: Entry<'_>) -> Result<(), RunError>;
 
     /// Something that is not read; if it is no line, nothing follows.
-    fn unread(&mut self, unread: Unread<'_>) -> Result<(), RunError>;
+    fn unread(&mut self, _unread: Unread<'_>) -> Result<(), RunError> {
+        Ok(())
+    }
 
     /// A byte order mark, which begins a file of lines.
-    fn bom(&mut self) -> Result<(), RunError>;
+    fn bom(&mut self) -> Result<(), RunError> {
+        Ok(())
+    }
 
     /// Whether the rest need not be visited.
-    fn is_done(&self) -> bool;
+    fn is_done(&self) -> bool {
+        false
+    }
 }

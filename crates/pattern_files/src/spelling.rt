@@ -1,6 +1,6 @@
 //! What a pattern that is fixed or formatted is written as in its file.
 ghost use Rattle.std.specs.Bool.{OnTrue};
-ghost use Rattle.std.specs.Prelude.{◌≡◌, ◌∷◌, ◌++◌, [], IfOk, IfSome, string_bytes};
+ghost use Rattle.std.specs.Prelude.{◌≡◌, ◌≤◌, ◌∷◌, ◌++◌, [], length, IfOk, IfSome, string_bytes};
 ghost use Rattle.pattern_files.specs.Spelled as spec;
 ghost use Rattle.pattern_files.specs.Spelled.{IsJsonOf, IsSpelled};
 
@@ -181,6 +181,58 @@ impl<'a> SpelledPart<'a> {
             self.pass();
         }
         Some(self.pass())
+    }
+}
+
+/// How many bytes of the contents of a string of JSON spell so many bytes of the pattern.
+fn json_offset(contents: &str, pattern: &str, offset: usize) -> usize
+    ensures within { result ≤ length contents.now }
+{
+    let mut part = SpelledPart { pattern, contents };
+    let left = pattern.len().saturating_sub(offset);
+    for _ in 0..pattern.len() {
+        if part.pattern.len() <= left {
+            break;
+        }
+        part.pass();
+    }
+    contents.len().saturating_sub(part.contents.len())
+}
+
+/// How many bytes of the pattern are spelled by so many bytes of the contents of a string of JSON; an escape counts once it is
+/// whole.
+fn offset_of_json(contents: &str, pattern: &str, offset: usize) -> usize
+    ensures within { result ≤ length pattern.now }
+{
+    let mut part = SpelledPart { pattern, contents };
+    let left = contents.len().saturating_sub(offset);
+    for _ in 0..pattern.len() {
+        let before = part.pattern;
+        part.pass();
+        if part.contents.len() < left {
+            return pattern.len().saturating_sub(before.len());
+        }
+    }
+    pattern.len()
+}
+
+/// How many bytes of a pattern are before the byte offset in its contents.
+pub fn offset_in_pattern(form: SpelledIn, contents: &str, pattern: &str, offset: usize) -> usize
+    ensures within { result ≤ length pattern.now }
+{
+    match form {
+        SpelledIn::Line | SpelledIn::Lines => offset.min(pattern.len()),
+        SpelledIn::Json => offset_of_json(contents, pattern, offset),
+    }
+}
+
+/// How many bytes of the contents of a pattern are before the byte offset in the pattern.
+pub fn offset_in_contents(form: SpelledIn, contents: &str, pattern: &str, offset: usize) -> usize
+    ensures within { result ≤ length contents.now }
+{
+    match form {
+        SpelledIn::Line | SpelledIn::Lines => offset.min(contents.len()),
+        SpelledIn::Json => json_offset(contents, pattern, offset),
     }
 }
 

@@ -1,5 +1,5 @@
 //! Reports as JSON, an object a line.
-pub(crate) mod fields;
+pub mod fields;
 mod groups;
 mod node;
 

@@ -1,4 +1,4 @@
-//! Reports on patterns: as text, as JSON, as workflow commands of GitHub's actions, and as SARIF.
+//! Reports on patterns: as text, as JSON, as workflow commands of GitHub's actions, as SARIF, and as values.
 #![tactic(auto)]
 
 mod annotation;
@@ -7,9 +7,10 @@ pub mod fixes;
 pub mod format;
 pub mod github;
 pub mod json_lines;
+pub mod kept;
 pub mod reporter;
 pub mod reports;
 pub mod sarif;
-mod severity;
+pub mod severity;
 pub mod streams;
 pub mod text;

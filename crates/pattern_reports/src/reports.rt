@@ -4,6 +4,7 @@ ghost use Rattle.std.specs.Prelude.{◌≡◌, false};
 use crate::format::ReportFormat;
 use crate::github::Github;
 use crate::json_lines::JsonLines;
+use crate::kept::{Kept, Report};
 use crate::reporter::Reporter;
 use crate::sarif::Sarif;
 use crate::streams::{Stream, Streams};
@@ -42,16 +43,22 @@ impl ReportLog {
     }
 }
 
-/// The reports of a run.
+/// The reports of a run, or of an editor.
 #[derive(Drop)]
 pub enum Reports<'a> {
     Text(Text<'a>),
     Json(JsonLines<'a>),
     Github(Github<'a>),
     Sarif(Sarif<'a>),
+    Kept(Kept<'a>),
 }
 
 impl<'a> Reports<'a> {
+    /// Those that are added to a list.
+    pub fn kept(reports: &'a mut Vec<Report>) -> Reports<'a> {
+        Reports::Kept(Kept { reports })
+    }
+
     /// Those that are written to the streams.
     pub fn new(
         options: ReportOptions,
@@ -92,6 +99,7 @@ macro_rules! with_reporter {
             Reports::Json($reporter) => $call,
             Reports::Github($reporter) => $call,
             Reports::Sarif($reporter) => $call,
+            Reports::Kept($reporter) => $call,
         }
     };
 }

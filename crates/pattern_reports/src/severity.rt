@@ -4,7 +4,7 @@ use patterns_text::paint::Ink;
 
 /// How bad it is what is reported.
 #[derive(Clone, Copy, PartialEq, Eq)]
-pub(crate) enum Severity {
+pub enum Severity {
     Error,
     Warning,
     Notice,

@@ -5,7 +5,7 @@ use crate::chosen::{
     canvas_of, choices_of, files_of, job_of, look_of, pattern_of, report_format_of, width_of,
 };
 use crate::command::command;
-use crate::rules::levels_chosen;
+use crate::rules::{explain_rules, levels_chosen};
 use crate::subcommands::{PatternVerb, Verb};
 use clap::error::ErrorKind;
 use clap::{ArgMatches, Error};
@@ -22,6 +22,7 @@ use patterns_program::draw::draw_tree;
 use patterns_program::job::{Command, Job, Output};
 use patterns_program::pattern_flags::flags_of_pattern;
 use patterns_program::run::run;
+use patterns_server::serve::serve;
 use patterns_text::error::{RunError, give_up};
 use patterns_text::paint::Paints;
 use patterns_text::subject::Subject;
@@ -68,6 +69,10 @@ enum Request<'m> {
     Files(Job<'m>, &'m [&'m str]),
     /// One pattern, which is drawn.
     Pattern(PatternVerb, Choices<'m>),
+    /// An editor is served.
+    Server(Choices<'m>),
+    /// The rules of these names are explained.
+    Rules(&'m [&'m str]),
 }
 
 /// That the arguments are wrong.
@@ -118,6 +123,9 @@ fn request_of<'m>(
     if matches.get_flag("rules") {
         return Err(NoRun::Rules);
     }
+    if let Some(names) = matches.get_strs("explain") {
+        return Ok(Request::Rules(names));
+    }
     let choices = choices_of(matches, flags, levels);
     match verb {
         Verb::Files(verb) => {
@@ -129,6 +137,7 @@ fn request_of<'m>(
             }
         }
         Verb::Pattern(verb) => Ok(Request::Pattern(verb, choices)),
+        Verb::Server => Ok(Request::Server(choices)),
     }
 }
 
@@ -204,6 +213,20 @@ fn draw_chosen<S: System, O: Write, E: Write>(
     Ok(draw(verb, subject, matches, out, err))
 }
 
+/// Serves the editor that writes to the standard input, and returns the exit status.
+fn serve_input<S: System, O: Write, E: Write>(
+    alloc: Global,
+    choices: Choices<'_>,
+    sources: &S,
+    out: &mut O,
+    err: &mut E,
+) -> Result<u8, RunError>
+    ensures status { IfOk result (λ status. status ≤ 3) }
+{
+    let mut input = sources.input()?;
+    Ok(serve(alloc, choices, sources, &mut input, out, err))
+}
+
 /// The command line with the arguments.
 fn parsed<'a>(
     alloc: Global,
@@ -243,6 +266,12 @@ fn execute_words<S: System, O: Write, E: Write>(
         Ok(Request::Files(job, files)) => Ok(run(alloc, job, files, sources, out, err)),
         Ok(Request::Pattern(verb, choices)) => {
             draw_chosen(alloc, verb, choices, chosen, sources, out, err)
+        }
+        Ok(Request::Server(choices)) => serve_input(alloc, choices, sources, out, err),
+        Ok(Request::Rules(names)) => {
+            explain_rules(names, out)?;
+            out.flush()?;
+            Ok(0)
         }
         Err(reason) => explain(reason, out, err),
     }

@@ -223,7 +223,7 @@ box that is wider by itself stays so",
     },
 ];
 
-pub(crate) static LINT_OPTIONS: [OptionRow; 11] = [
+pub(crate) static LINT_OPTIONS: [OptionRow; 12] = [
     OptionRow {
         id: "allow",
         takes: Takes::Rules,
@@ -282,7 +282,13 @@ would be left",
     },
     OptionRow {
         id: "rules",
-        help: "Explains the rules, with an example of each, and reads no file",
+        help: "Lists the rules, with an example of each, and reads no file",
+        ..FLAG
+    },
+    OptionRow {
+        id: "explain",
+        takes: Takes::Rules,
+        help: "Explains rules, with patterns of programs, and reads no file",
         ..FLAG
     },
 ];
@@ -360,4 +366,17 @@ as ranges, of which only the first are written",
         ..FLAG
     },
     JSON,
+];
+
+/// Those of `server`.
+pub(crate) static SERVER_OPTIONS: [OptionRow; 4] = [
+    FLAGS,
+    OptionRow {
+        id: "null-data",
+        short: Some('z'),
+        help: "Each document is one pattern, which may have several lines",
+        ..FLAG
+    },
+    CONFIG,
+    NO_CONFIG,
 ];

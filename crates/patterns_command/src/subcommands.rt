@@ -23,16 +23,19 @@ pub(crate) enum PatternVerb {
 pub(crate) enum Verb {
     Files(FileVerb),
     Pattern(PatternVerb),
+    /// It serves an editor.
+    Server,
 }
 
 /// All of them, in the order of the help.
-pub(crate) static VERBS: [Verb; 6] = [
+pub(crate) static VERBS: [Verb; 7] = [
     Verb::Files(FileVerb::Check),
     Verb::Pattern(PatternVerb::Tree),
     Verb::Pattern(PatternVerb::Picture),
     Verb::Files(FileVerb::Lint),
     Verb::Files(FileVerb::Format),
     Verb::Files(FileVerb::Groups),
+    Verb::Server,
 ];
 
 /// A subcommand.
@@ -172,6 +175,20 @@ character.",
     }
 }
 
+/// The row of `server`.
+fn server() -> Subcommand {
+    Subcommand {
+        name: "server",
+        about: "Serves an editor: reports, fixes and formats patterns as they are typed",
+        long_about: Some(
+            "Serves an editor, by the Language Server Protocol over standard input and output: it reports what
+check and lint report, and fixes and formats patterns. docs/editors.md says how editors start it.",
+        ),
+        example: "Example: an editor runs  patterns server",
+        options: &options::SERVER_OPTIONS,
+    }
+}
+
 impl Verb {
     /// Its row.
     pub(crate) fn row(self) -> Subcommand {
@@ -182,6 +199,7 @@ impl Verb {
             Verb::Files(FileVerb::Lint) => lint(),
             Verb::Files(FileVerb::Format) => format(),
             Verb::Files(FileVerb::Groups) => groups(),
+            Verb::Server => server(),
         }
     }
 
@@ -190,6 +208,7 @@ impl Verb {
         match self {
             Verb::Files(_) => [&options::FILE_OPTIONS, self.row().options],
             Verb::Pattern(_) => [self.row().options, &options::PATTERN_OPTIONS],
+            Verb::Server => [self.row().options, &[]],
         }
     }
 

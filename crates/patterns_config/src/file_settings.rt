@@ -28,7 +28,7 @@ pub struct FileSettings<'a> {
 
 impl<'a> FileSettings<'a> {
     /// None, of a file without a configuration.
-    pub(crate) fn none(alloc: Global) -> FileSettings<'a> {
+    pub fn none(alloc: Global) -> FileSettings<'a> {
         FileSettings {
             found: Vec::new(alloc),
             is_named: false,

@@ -31,7 +31,7 @@ const LOST: &str = "comments would be lost; use --drop-comments";
 
 /// What becomes of a pattern that has a comment, which its text does not keep.
 #[derive(Clone, Copy, PartialEq, Eq)]
-pub(crate) enum Comments {
+pub enum Comments {
     /// It stays as it is, and that is reported.
     Keep,
     /// It is written without the comment.

@@ -1,4 +1,7 @@
 //! The changes of the patterns of a file.
+ghost use Rattle.std.specs.Prelude.{◌≡◌, IfOk};
+ghost use Rattle.patterns_program.specs.Edited.{form_at, IsReplaced, IfInFile};
+
 use crate::outcome::Outcome;
 use crate::rewriting::PatternForm;
 use pattern_files::entry::Entry;
@@ -225,21 +228,29 @@ fn moved(
     Ok(Ok(MovedPattern { change, positions }))
 }
 
+/// How a file spells its patterns, if it has no records. A text that may not have several lines is left out before.
+fn form_at(spot: Spot<'_>) -> SpelledIn
+    ensures { result ≡ form_at spot.entry }
+{
+    match spot {
+        Spot::Line(_) => SpelledIn::Lines,
+        Spot::Path { .. } | Spot::Value { .. } | Spot::Source(_) => SpelledIn::Json,
+    }
+}
+
 /// What is changed for the pattern of an entry that becomes the text; or why it stays.
 pub(crate) fn change_of(
     alloc: Global,
     entry: Entry<'_>,
     form: PatternForm,
     text: &str,
-) -> Result<Result<PatternChange, Unwritten>, AllocError> {
+) -> Result<Result<PatternChange, Unwritten>, AllocError>
+    ensures in_file { IfOk result (λ written. IfOk written (IfInFile (IsReplaced entry.entry text.now))) }
+{
     if let Some(record) = entry.record {
         return Ok(moved(alloc, entry, record, form, text)?.map(PatternChange::InSource));
     }
-    let spelled_in = match entry.spot {
-        // A text that may not have several lines was left out before.
-        Spot::Line(_) => SpelledIn::Lines,
-        Spot::Path { .. } | Spot::Value { .. } | Spot::Source(_) => SpelledIn::Json,
-    };
+    let spelled_in = form_at(entry.spot);
     match spelled(alloc, spelled_in, entry.contents, entry.pattern, text)? {
         Some(text) => Ok(Ok(PatternChange::InFile(Replacement {
             span: entry.span,

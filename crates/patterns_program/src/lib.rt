@@ -2,18 +2,20 @@
 //! `patterns_tests`, and the folder `data` of `patterns`, which `.ci/runs` reads.
 #![tactic(auto)]
 
-mod canonical;
+pub mod canonical;
 mod change;
 mod changes;
 mod check;
+mod draft;
 pub mod draw;
+pub mod edited;
 mod groups;
 pub mod job;
 mod lint;
 mod outcome;
 pub mod pattern_flags;
 mod progress;
-mod rewriting;
+pub mod rewriting;
 pub mod run;
 mod source_changes;
 mod tally;

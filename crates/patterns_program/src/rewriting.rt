@@ -4,6 +4,7 @@ ghost use Rattle.fancy_lex.specs.Flags.{flags_of};
 ghost use Rattle.pattern_format.specs.Formatted.{IsFormatted};
 ghost use Rattle.pattern_format.specs.declared.style.Style.{Style};
 ghost use Rattle.patterns_config.specs.declared.choices.FormatStyle.{FormatStyle};
+ghost use Rattle.patterns_program.specs.Edited.{IsInForm};
 ghost use Rattle.patterns_program.specs.Rewriting.{IfChanged};
 ghost use Rattle.patterns_program.specs.declared.canonical.Comments.{Comments};
 ghost use Rattle.patterns_program.specs.declared.outcome.Outcome.{Outcome};
@@ -31,7 +32,7 @@ const NOT_FORMATTED: &str = "the pattern cannot be formatted without another cha
 
 /// The form that `format` writes patterns in.
 #[derive(Clone, Copy, PartialEq, Eq)]
-pub(crate) enum PatternForm {
+pub enum PatternForm {
     /// As they are written, and what has one right form in that form.
     Written(Style),
     /// As the texts of their trees.
@@ -40,11 +41,11 @@ pub(crate) enum PatternForm {
 
 impl PatternForm {
     /// That of patterns for which nothing is chosen.
-    pub(crate) const NONE: PatternForm = PatternForm::Written(Style::Kept);
+    pub const NONE: PatternForm = PatternForm::Written(Style::Kept);
 }
 
 /// The form of patterns with these settings. Without `has_lines` each is in one line, and stays in it.
-pub(crate) fn form_of(settings: FormatSettings, has_lines: bool) -> PatternForm
+pub fn form_of(settings: FormatSettings, has_lines: bool) -> PatternForm
     ensures kept { settings.style ≡ FormatStyle.Default → result ≡ PatternForm.Written Style.Kept }
     ensures verbose { settings.style ≡ FormatStyle.Verbose → result ≡
         PatternForm.Written (if has_lines then Style.Verbose settings.width else Style.Kept) }
@@ -125,7 +126,10 @@ pub(crate) fn formatted(
     subject: Subject<'_>,
     form: PatternForm,
     reports: &mut Reports<'_>,
-) -> Result<Rewriting, RunError> {
+) -> Result<Rewriting, RunError>
+    ensures changed { IfOk result (IfChanged
+        (IsInForm form (flags_of subject.entry.flags) subject.entry.pattern.now)) }
+{
     match form {
         PatternForm::Written(style) => styled(subject, style, reports),
         PatternForm::Canonical(comments) => canonical(subject, comments, reports),

@@ -64,8 +64,8 @@ impl Reason {
 #[derive(Clone, Copy)]
 pub struct JsonRefusal {
     /// The line and the column in the file.
-    line: u64,
-    column: u64,
+    pub(crate) line: u64,
+    pub(crate) column: u64,
     /// Whether the text is a line of the file, and not all of it.
     is_line: bool,
     reason: Reason,
@@ -73,7 +73,6 @@ pub struct JsonRefusal {
 
 impl fmt::Display for JsonRefusal {
     fn fmt<W: fmt::Write>(&self, f: &mut fmt::Formatter<W>) -> fmt::Result {
-        write!(f, "{}:{}: ", self.line, self.column)?;
         if let Reason::TooDeep = self.reason {
             return write!(f, "the JSON nests deeper than {MAX_DEPTH} levels");
         }

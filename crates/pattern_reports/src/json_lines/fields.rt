@@ -9,19 +9,19 @@ use std::alloc::{AllocError, Global};
 use std::io::Write;
 
 /// Writes a field that is a text.
-pub(crate) fn write_text(writer: &mut Writer, name: &str, text: &str) -> Result<(), AllocError> {
+pub fn write_text(writer: &mut Writer, name: &str, text: &str) -> Result<(), AllocError> {
     writer.key(name)?;
     writer.string(text)
 }
 
 /// Writes a field that is a number.
-pub(crate) fn write_number(writer: &mut Writer, name: &str, number: u64) -> Result<(), AllocError> {
+pub fn write_number(writer: &mut Writer, name: &str, number: u64) -> Result<(), AllocError> {
     writer.key(name)?;
     writer.u64(number)
 }
 
 /// Writes a field that is true or false.
-pub(crate) fn write_bool(writer: &mut Writer, name: &str, is_so: bool) -> Result<(), AllocError> {
+pub fn write_bool(writer: &mut Writer, name: &str, is_so: bool) -> Result<(), AllocError> {
     writer.key(name)?;
     writer.boolean(is_so)
 }

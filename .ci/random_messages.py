@@ -1,0 +1,205 @@
+"""Random messages to `patterns server`, for `.ci/runs`; by itself `.ci/random_messages.py PROGRAM [COUNT [SEED]]`.
+
+Documents are opened, changed at random, whole and by ranges, and closed. What is reported after a change has to be what is reported when
+the text is opened that the changes lead to by the protocol, which is computed here. A change at a position that a document does not have
+has to be refused, and the document to stay as it was. Each request has to get one answer.
+"""
+import json
+import random
+import re
+import subprocess
+import sys
+import tempfile
+from pathlib import Path
+from typing import Optional
+
+from exchanges import framed, message
+from programs import Check, Output, path_of
+
+COUNT = 400
+
+ALPHABET = ["a", "b", "(", ")", "|", "*", "{1}", "[a]", "[", "]", "\\d", "\\", "é", "𝄞", "\n", "\r", "\r\n", "?", "(?<n>", "\\k<n>", "#"]
+LINE_ENDS = ("\n", "\r")
+
+
+def lines_of(text: str) -> list:
+    """Where the lines of a text begin and end, without their ends."""
+    found, start, at = [], 0, 0
+    while at < len(text):
+        if text[at] in LINE_ENDS:
+            found.append((start, at))
+            at += 2 if text[at:at + 2] == "\r\n" else 1
+            start = at
+        else:
+            at += 1
+    found.append((start, len(text)))
+    return found
+
+
+def units(c: str, utf8: bool) -> int:
+    """How many units a character takes."""
+    return len(c.encode("utf-8")) if utf8 else len(c.encode("utf-16-le")) // 2
+
+
+def index_of(text: str, position: dict, utf8: bool) -> Optional[int]:
+    """How many characters are before a position; None if there is no such position."""
+    lines = lines_of(text)
+    if position["line"] >= len(lines):
+        return None
+    start, end = lines[position["line"]]
+    left = position["character"]
+    while left > 0 and start < end:
+        left -= units(text[start], utf8)
+        if left < 0:
+            return None
+        start += 1
+    return start
+
+
+def changed(text: str, changes: list, utf8: bool) -> Optional[str]:
+    """The text after changes; None if one is at a wrong position."""
+    for change in changes:
+        if "range" not in change:
+            text = change["text"]
+            continue
+        first, last = change["range"]["start"], change["range"]["end"]
+        start, end = (index_of(text, it, utf8) for it in (first, last))
+        if start is None or end is None or (first["line"], first["character"]) > (last["line"], last["character"]):
+            return None
+        text = text[:start] + change["text"] + text[end:]
+    return text
+
+
+def some_text(rng: random.Random) -> str:
+    """A short text."""
+    return "".join(rng.choice(ALPHABET) for _ in range(rng.randrange(12)))
+
+
+def some_position(rng: random.Random, text: str) -> dict:
+    """A position, which may be wrong."""
+    lines = lines_of(text)
+    line = rng.randrange(len(lines) + (rng.random() < 0.05))
+    width = len(text) if line >= len(lines) else lines[line][1] - lines[line][0]
+    return {"line": line, "character": rng.randrange(width + 3)}
+
+
+def some_change(rng: random.Random, text: str) -> dict:
+    """A change of a text."""
+    if rng.random() < 0.1:
+        return {"text": some_text(rng)}
+    ends = [some_position(rng, text), some_position(rng, text)]
+    if rng.random() < 0.95:
+        ends.sort(key=lambda it: (it["line"], it["character"]))
+    return {"range": dict(zip(("start", "end"), ends)), "text": some_text(rng)}
+
+
+REQUESTS = ("hover", "definition", "references", "documentHighlight", "rename", "formatting", "rangeFormatting", "codeAction",
+            "documentSymbol", "foldingRange", "semanticTokens/full", "selectionRange", "unknown")
+
+
+class Client:
+    """A client of a server."""
+
+    def __init__(self, program: str, folder: str, utf8: bool) -> None:
+        self.process = subprocess.Popen([program, "server"], cwd=folder, stdin=subprocess.PIPE, stdout=subprocess.PIPE)
+        self.number = 0
+        encodings = ["utf-8"] if utf8 else ["utf-16"]
+        self.ask("initialize", {"capabilities": {"general": {"positionEncodings": encodings}}})
+
+    def send(self, **fields) -> None:
+        """Sends a message."""
+        self.process.stdin.write(framed(json.dumps({"jsonrpc": "2.0", **fields})))
+
+    def ask(self, method: str, params: dict) -> tuple:
+        """The answer to a request, and the notifications before it."""
+        self.number += 1
+        self.send(id=self.number, method=method, params=params)
+        self.process.stdin.flush()
+        notes = []
+        while True:
+            got = message(self.process.stdout)
+            assert got is not None, f"the server ends: {self.process.wait()}"
+            got = json.loads(got)
+            if "method" in got:
+                notes.append(got)
+                continue
+            assert got["id"] == self.number, got
+            return got, notes
+
+    def reports(self) -> list:
+        """The notifications that have come."""
+        return self.ask("barrier", {})[1]
+
+
+def diagnostics(notes: list, uri: str) -> Optional[list]:
+    """What is reported last on a document."""
+    found = [it["params"]["diagnostics"] for it in notes if it["method"].endswith("publishDiagnostics") and it["params"]["uri"] == uri]
+    return json.loads(json.dumps(found[-1]).replace(uri, "")) if found else None
+
+
+def request(rng: random.Random, client: Client, uri: str, text: str) -> None:
+    """Asks for something at random."""
+    position = some_position(rng, text)
+    ends = {"start": some_position(rng, text), "end": some_position(rng, text)}
+    params = {"textDocument": {"uri": uri}, "position": position, "range": ends, "positions": [position], "newName": "m", "context": {}}
+    for name in rng.sample(sorted(params), rng.randrange(2)):
+        del params[name]
+    client.ask("textDocument/" + rng.choice(REQUESTS), params)
+
+
+def sequence(rng: random.Random, client: Client, utf8: bool) -> int:
+    """A document that is opened, changed and closed; how many messages there were."""
+    uri, text = "untitled:a", some_text(rng)
+    document = {"uri": uri, "languageId": "patterns", "version": 1, "text": text}
+    client.send(method="textDocument/didOpen", params={"textDocument": document})
+    count = 2
+    for version in range(2, 2 + rng.randrange(8)):
+        changes = [some_change(rng, text) for _ in range(rng.randrange(1, 4))]
+        client.send(method="textDocument/didChange", params={"textDocument": {"uri": uri, "version": version}, "contentChanges": changes})
+        after = changed(text, changes, utf8)
+        notes = client.reports()
+        if after is None:
+            assert [it["method"] for it in notes if it["params"].get("uri") in (uri, None)][-1] == "window/showMessage", (text, changes, notes)
+        else:
+            text = after
+            fresh = {**document, "uri": "untitled:b", "text": text}
+            client.send(method="textDocument/didOpen", params={"textDocument": fresh})
+            client.send(method="textDocument/didClose", params={"textDocument": {"uri": "untitled:b"}})
+            wanted = [it for it in client.reports() if it["params"].get("uri") == "untitled:b"][0:1]
+            assert diagnostics(notes, uri) == diagnostics(wanted, "untitled:b"), (text, changes, notes, wanted)
+        request(rng, client, uri, text)
+        count += 4
+    client.send(method="textDocument/didClose", params={"textDocument": {"uri": uri}})
+    return count
+
+
+def played(program: Path, total: int, seed: int) -> str:
+    """What comes of so many sequences, half of them with positions in UTF-16, and half in UTF-8."""
+    rng, count = random.Random(seed), 0
+    with tempfile.TemporaryDirectory() as folder:
+        for utf8 in (False, True):
+            client = Client(str(program), folder, utf8)
+            for _ in range(total // 2):
+                count += sequence(rng, client, utf8)
+            client.ask("shutdown", {})
+            client.send(method="exit")
+            client.process.stdin.close()
+            assert client.process.wait() == 0
+    return f"{total} sequences, {count} messages\n"
+
+
+def parts() -> dict:
+    """The checks."""
+    run = lambda: Output(re.sub(r", \d+", ", N", played(path_of("patterns"), COUNT, 1)), "", 0)
+    return {"random messages": [Check("random messages", run, f"{COUNT} sequences, N messages\n", lambda got: got.out)]}
+
+
+def main() -> int:
+    """Sends random sequences."""
+    total = int(sys.argv[2]) if len(sys.argv) > 2 else 1000
+    print(played(Path(sys.argv[1]), total, int(sys.argv[3]) if len(sys.argv) > 3 else 1), end="")
+    return 0
+
+
+if __name__ == "__main__":
+    sys.exit(main())

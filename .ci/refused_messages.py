@@ -1,0 +1,87 @@
+"""Exchanges with `patterns server` in which each request for memory is refused in turn: `.ci/refused_messages.py PROGRAM REFUSE`, for
+`.ci/refused-memory`, where REFUSE is the built `refuse.c`.
+
+The server gets all messages of an exchange at once. It has to answer each request once, with the result that it has without a refusal, or that
+memory ran out, without an id if the request was not read; or to end with status 3, after a part of its answers. After a message that is not
+done it may answer otherwise.
+"""
+import json
+import os
+import subprocess
+import sys
+import tempfile
+from concurrent.futures import ThreadPoolExecutor
+from io import BytesIO
+from itertools import count
+from pathlib import Path
+from typing import NamedTuple
+
+from exchanges import EXCHANGES, message, parts_of
+from programs import decoded
+
+INTERNAL = -32603
+
+
+class Session(NamedTuple):
+    """What a server wrote and returned, and whether a request for memory was refused."""
+    messages: list
+    status: int
+    is_refused: bool
+
+
+def played(program: str, sent: bytes, env: dict) -> Session:
+    """What comes of messages."""
+    with tempfile.TemporaryDirectory() as folder, tempfile.TemporaryFile() as refused:
+        # The shell itself has none of its requests refused.
+        words = ["env", *(f"{name}={value}" for name, value in env.items()), program, "server"]
+        command = ["bash", "-c", f'exec 9<&{refused.fileno()}; exec "$@"', "bash", *words]
+        got = subprocess.run(command, cwd=folder, input=sent, pass_fds=[refused.fileno()], capture_output=True, check=False)
+        stream, messages = BytesIO(got.stdout), []
+        while (one := message(stream)) is not None:
+            messages.append(json.loads(one))
+        return Session(messages, got.returncode, refused.seek(0, os.SEEK_END) > 0)
+
+
+def answers(session: Session) -> list:
+    """The answers to requests, by their ids."""
+    return [it for it in session.messages if "id" in it]
+
+
+def is_right(got: Session, wanted: Session) -> bool:
+    """Whether the session with a refusal is as it has to be."""
+    own = [it for it in answers(got) if it["id"] is not None]
+    unknown = [it for it in answers(got) if it["id"] is None and it["error"]["code"] == INTERNAL]
+    by_id = {it["id"]: it for it in answers(wanted) if it["id"] is not None}
+    ids = [it["id"] for it in own]
+    missing = len(by_id) - len(own)
+    if ids != [it for it in by_id if it in ids] or got.status != 3 and missing > len(unknown):
+        return False
+    if got.status == 3:
+        return True
+    is_changed = unknown or any(it.get("method") == "window/showMessage" for it in got.messages)
+    same = all(it == by_id[it["id"]] or it.get("error", {}).get("code") == INTERNAL for it in own)
+    return bool(is_changed) or got.status == wanted.status and same
+
+
+def refused(program: str, library: str, file: Path) -> int:
+    """Refuses each request in an exchange, and returns how many there were."""
+    sent = b"".join(it.sent for it in parts_of(decoded(file.read_bytes())) if it.sent)
+    wanted = played(program, sent, {})
+    for number in count(1):
+        got = played(program, sent, {"REFUSED_REQUEST": str(number), "LD_PRELOAD": library})
+        assert is_right(got, wanted), (file.name, number, got.status, got.messages)
+        if not got.is_refused:
+            return number - 1
+
+
+def main() -> int:
+    """Plays all exchanges."""
+    files = sorted(EXCHANGES.glob("*.txt"))
+    with ThreadPoolExecutor(os.cpu_count()) as pool:
+        counts = list(pool.map(lambda it: refused(*sys.argv[1:3], it), files))
+    print(f"{len(files)} exchanges with a server: {sum(counts)} requests refused")
+    return 0
+
+
+if __name__ == "__main__":
+    sys.exit(main())

@@ -1,0 +1,5 @@
+pub mod ChangeLemmas
+pub mod CursorLemmas
+pub mod CutLemmas
+pub mod PositionLemmas
+pub mod TextLemmas

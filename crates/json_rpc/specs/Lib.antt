@@ -1,0 +1,2 @@
+pub mod ErrorCode
+pub mod Header

@@ -1,0 +1,245 @@
+//! Code actions: fixes, one by one and all of a rule in the document, and comments that silence a rule in a pattern.
+use crate::document::{OpenDocument, Settings};
+use crate::ranges::{Located, Locator, touches};
+use fancy_syntax::span::Span;
+use json::Writer;
+use lint_rules::chosen::Level;
+use lint_rules::rule::Rule;
+use pattern_files::entry::{Entry, Visitor};
+use pattern_reports::json_lines::fields::write_text;
+use pattern_reports::kept::{PartText, Report};
+use patterns_lint::silenced::PREFIX;
+use patterns_program::edited::EditedPatterns;
+use patterns_text::error::RunError;
+use source_literals::replaced::Replacement;
+use std::alloc::{AllocError, Global};
+
+/// Writes the edit that makes a pattern of a document another one.
+pub fn write_edit(
+    writer: &mut Writer,
+    located: Located<'_, '_>,
+    part: &Replacement,
+) -> Result<(), AllocError> {
+    writer.begin_object()?;
+    writer.key("range")?;
+    located.write_whole(writer)?;
+    write_text(writer, "newText", part.text.as_str())?;
+    writer.end_object()
+}
+
+/// Begins a change of a workspace: the edits of this document are to be written next.
+pub fn begin_changes(writer: &mut Writer, uri: &str) -> Result<(), AllocError> {
+    writer.begin_object()?;
+    writer.key("changes")?;
+    writer.begin_object()?;
+    writer.key(uri)?;
+    writer.begin_array()
+}
+
+/// Ends a change of a workspace.
+pub fn end_changes(writer: &mut Writer) -> Result<(), AllocError> {
+    writer.end_array()?;
+    writer.end_object()?;
+    writer.end_object()
+}
+
+/// Begins an action: the edits of this document are to be written next.
+fn begin_action(writer: &mut Writer, title: &str, uri: &str) -> Result<(), AllocError> {
+    writer.begin_object()?;
+    write_text(writer, "title", title)?;
+    write_text(writer, "kind", "quickfix")?;
+    writer.key("edit")?;
+    begin_changes(writer, uri)
+}
+
+/// Ends an action.
+fn end_action(writer: &mut Writer) -> Result<(), AllocError> {
+    end_changes(writer)?;
+    writer.end_object()
+}
+
+/// The pattern with the part replaced; None if it is no part of the pattern.
+fn with_fix(alloc: Global, pattern: &str, fix: &PartText) -> Result<Option<String>, AllocError> {
+    let Some(before) = pattern.get(..fix.span.start) else {
+        return Ok(None);
+    };
+    let Some(after) = pattern.get(fix.span.end..) else {
+        return Ok(None);
+    };
+    Ok(Some(format!(in alloc; "{before}{}{after}", fix.text)?))
+}
+
+/// The pattern after a comment that silences the rule in it.
+fn with_silence(alloc: Global, pattern: &str, rule: Rule) -> Result<String, AllocError> {
+    format!(in alloc; "(?#{PREFIX}{}){pattern}", rule.name())
+}
+
+/// Writes the actions on single reports, and notes the rules of those that can be fixed.
+#[derive(Drop)]
+struct ActionWalk<'d> {
+    alloc: Global,
+    uri: &'d str,
+    locator: Locator<'d>,
+    patterns: &'d mut EditedPatterns,
+    /// The part of the document that actions are asked for, in byte offsets.
+    part: Span,
+    rules: Vec<Rule>,
+    writer: &'d mut Writer,
+}
+
+impl ActionWalk<'_> {
+    /// Writes the action that makes a pattern this one, if it can.
+    fn write(
+        &mut self,
+        located: Located<'_, '_>,
+        title: &str,
+        text: &str,
+    ) -> Result<bool, RunError> {
+        let Some(part) = self.patterns.fixed_to(located.entry, text)? else {
+            return Ok(false);
+        };
+        begin_action(self.writer, title, self.uri)?;
+        write_edit(self.writer, located, &part)?;
+        end_action(self.writer)?;
+        Ok(true)
+    }
+
+    /// Writes the action that fixes the report of the rule, if there is one.
+    fn write_fix(
+        &mut self,
+        located: Located<'_, '_>,
+        report: &Report,
+        rule: Rule,
+    ) -> Result<(), RunError> {
+        let Some(fix) = &report.fix else {
+            return Ok(());
+        };
+        let Some(text) = with_fix(self.alloc, located.entry.pattern, fix)? else {
+            return Ok(());
+        };
+        let title = format!(in self.alloc; "Fix: {} [{}]", report.message, rule.name())?;
+        let is_written = self.write(located, title.as_str(), text.as_str())?;
+        if is_written && !self.rules.contains(&rule) {
+            self.rules.push(rule)?;
+        }
+        Ok(())
+    }
+
+    /// Writes the action that silences the rule in the pattern.
+    fn write_silence(&mut self, located: Located<'_, '_>, rule: Rule) -> Result<(), RunError> {
+        let text = with_silence(self.alloc, located.entry.pattern, rule)?;
+        let title = format!(in self.alloc; "Allow [{}] in this pattern", rule.name())?;
+        self.write(located, title.as_str(), text.as_str())?;
+        Ok(())
+    }
+
+    /// Writes the actions on the reports that touch the part.
+    fn write_all(&mut self, located: Located<'_, '_>, reports: &[Report]) -> Result<(), RunError> {
+        let mut silenced = Vec::new(self.alloc);
+        for report in reports {
+            let Some(rule) = report.rule else {
+                continue;
+            };
+            if !touches(self.part, located.bytes(report.span)) {
+                continue;
+            }
+            self.write_fix(located, report, rule)?;
+            if !silenced.contains(&rule) {
+                silenced.push(rule)?;
+                self.write_silence(located, rule)?;
+            }
+        }
+        Ok(())
+    }
+}
+
+impl Visitor for ActionWalk<'_> {
+    fn pattern(&mut self, entry: Entry<'_>) -> Result<(), RunError> {
+        let located = self.locator.locate(entry);
+        if !touches(self.part, entry.span) {
+            return Ok(());
+        }
+        let reports = self.patterns.reports(entry)?;
+        self.write_all(located, &reports)
+    }
+}
+
+/// Writes the edits that fix all reports of patterns.
+#[derive(Drop)]
+struct FixWalk<'d> {
+    locator: Locator<'d>,
+    patterns: EditedPatterns,
+    writer: &'d mut Writer,
+}
+
+impl Visitor for FixWalk<'_> {
+    fn pattern(&mut self, entry: Entry<'_>) -> Result<(), RunError> {
+        let located = self.locator.locate(entry);
+        if let Some(part) = self.patterns.fixed(entry)? {
+            write_edit(self.writer, located, &part)?;
+        }
+        Ok(())
+    }
+}
+
+/// Writes the action that fixes all reports of the rule in a document.
+fn write_fix_of_rule(
+    given: Settings<'_>,
+    uri: &str,
+    document: &OpenDocument,
+    rule: Rule,
+    writer: &mut Writer,
+) -> Result<(), RunError> {
+    let alloc = given.alloc;
+    let title = format!(in alloc; "Fix all [{}] in this file", rule.name())?;
+    begin_action(writer, title.as_str(), uri)?;
+    let flags = document.patterns.flags;
+    let mut levels = document.patterns.levels;
+    levels.set_all(Level::Allow);
+    levels.set(rule, Level::Warn);
+    let mut walk = FixWalk {
+        locator: Locator::new(given.encoding, document.source.text()),
+        patterns: EditedPatterns::new(alloc, flags, levels),
+        writer,
+    };
+    document.source.visit(given, flags, &mut walk)?;
+    end_action(walk.writer)?;
+    Ok(())
+}
+
+/// Writes the actions for a part of a document, as a list.
+pub fn write_actions(
+    given: Settings<'_>,
+    uri: &str,
+    document: &mut OpenDocument,
+    part: Span,
+    writer: &mut Writer,
+) -> Result<(), RunError> {
+    let alloc = given.alloc;
+    writer.begin_array()?;
+    let flags = document.patterns.flags;
+    let mut walk = ActionWalk {
+        alloc,
+        uri,
+        locator: Locator::new(given.encoding, document.source.text()),
+        patterns: &mut document.patterns,
+        part,
+        rules: Vec::new(alloc),
+        writer: &mut *writer,
+    };
+    document.source.visit(given, flags, &mut walk)?;
+    let ActionWalk {
+        alloc: _,
+        uri: _,
+        locator: _,
+        patterns: _,
+        part: _,
+        rules,
+        writer: _,
+    } = walk;
+    for rule in &rules {
+        write_fix_of_rule(given, uri, document, *rule, writer)?;
+    }
+    writer.end_array()?;
+    Ok(())
+}

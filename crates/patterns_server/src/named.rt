@@ -1,0 +1,182 @@
+//! Names of groups, and new ones in their place.
+use crate::asked::Refused;
+use crate::query::ReadPattern;
+use fancy_syntax::expr::Expr;
+use fancy_syntax::span::Span;
+use fancy_syntax::spanned::{SpannedNode, SpannedTree};
+use fancy_syntax::tree::ExprTree;
+use json::Writer;
+use json_rpc::error_code::ErrorCode;
+use pattern_documents::actions::{begin_changes, end_changes, write_edit};
+use patterns_program::edited::EditedPatterns;
+use patterns_text::error::RunError;
+use patterns_text::names::Names;
+use patterns_text::subject::Subject;
+use std::alloc::{AllocError, Global};
+
+/// That there is nothing to rename.
+const NO_NAME: Refused = Refused {
+    code: ErrorCode::RequestFailed,
+    reason: "no group with a name is there",
+};
+
+/// That a name is not given.
+const OTHER_PATTERN: Refused = Refused {
+    code: ErrorCode::RequestFailed,
+    reason: "with this name the pattern would be another one",
+};
+
+/// Whether a character may be part of a name.
+fn is_word(c: char) -> bool {
+    c.is_alphanumeric() || c == '_'
+}
+
+/// Whether the text begins with the name as a whole.
+fn begins_with_name(text: &str, name: &str) -> bool {
+    match text.strip_prefix(name) {
+        Some(rest) => !rest.starts_with(is_word),
+        None => false,
+    }
+}
+
+/// Where the opening of a group has its name, as a byte offset in the text of the group.
+fn name_in_group(text: &str, name: &str) -> Option<usize> {
+    for opening in ["(?<", "(?P<", "(?'"] {
+        if let Some(rest) = text.strip_prefix(opening)
+            && begins_with_name(rest, name)
+        {
+            return Some(opening.len());
+        }
+    }
+    None
+}
+
+/// Where a reference has the name, as a byte offset in the text of the reference: the last time that the name is there as a
+/// whole, after a delimiter.
+fn name_in_reference(text: &str, name: &str) -> Option<usize> {
+    let mut found = None;
+    for (offset, c) in text.char_indices() {
+        if is_word(c) || c == '\\' {
+            continue;
+        }
+        let start = offset.saturating_add(c.len_utf8());
+        if begins_with_name(text.get(start..)?, name) {
+            found = Some(start);
+        }
+    }
+    found
+}
+
+/// Adds where the name is in the text at the span, if it is there.
+fn push_name(starts: &mut Vec<usize>, span: Span, offset: Option<usize>) -> Result<(), AllocError> {
+    if let Some(offset) = offset {
+        starts.push(span.start.saturating_add(offset))?;
+    }
+    Ok(())
+}
+
+/// Where a pattern has the name of a group, in the order of the text: in the openings of the groups of this name, and in
+/// references to them by it.
+fn name_starts(
+    alloc: Global,
+    pattern: ReadPattern<'_, '_, '_>,
+    name: &str,
+) -> Result<Vec<usize>, AllocError> {
+    let text = pattern.subject.pattern;
+    let names = Names::of(alloc, &pattern.parsed.tree)?;
+    let mut starts = Vec::new(alloc);
+    let mut number = 0usize;
+    for node in pattern.nodes {
+        let span = node.span();
+        let part = span.text(text).unwrap_or("");
+        if let Expr::Group(_) = node.expr() {
+            number = number.saturating_add(1);
+            if names.name(number) == Some(name) {
+                push_name(&mut starts, span, name_in_group(part, name))?;
+            }
+        } else if pattern.meant(*node).and_then(|group| names.name(group)) == Some(name) {
+            push_name(&mut starts, span, name_in_reference(part, name))?;
+        }
+    }
+    starts.sort()?;
+    Ok(starts)
+}
+
+/// The text with another name in the place of this one at the offsets, which are in the order of the text.
+fn with_name(
+    alloc: Global,
+    text: &str,
+    starts: &[usize],
+    name: &str,
+    new: &str,
+) -> Result<String, AllocError> {
+    let mut renamed = String::with_capacity(alloc, text.len())?;
+    let mut done = 0usize;
+    for start in starts {
+        renamed.push_str(text.get(done..*start).unwrap_or(""))?;
+        renamed.push_str(new)?;
+        done = start.saturating_add(name.len());
+    }
+    renamed.push_str(text.get(done..).unwrap_or(""))?;
+    Ok(renamed)
+}
+
+/// Whether a pattern has become this one by another name of groups: the tree is the same, and the groups of the old name, and
+/// only those, have the new one.
+fn is_renamed(old: &ExprTree, new: &ExprTree, name: &str, new_name: &str) -> bool {
+    let (Some(groups), Some(new_groups)) = (
+        old.named_groups.get(name),
+        new.named_groups.get(new_name),
+    ) else {
+        return false;
+    };
+    old.expr == new.expr
+        && old.named_groups.len() == new.named_groups.len()
+        && old.named_groups.get(new_name).is_none()
+        && groups.as_slice() == new_groups.as_slice()
+}
+
+/// The pattern with the new name; None if that would be another pattern.
+fn renamed(
+    pattern: ReadPattern<'_, '_, '_>,
+    name: &str,
+    new: &str,
+) -> Result<Option<String>, RunError> {
+    let alloc = pattern.subject.alloc;
+    let starts = name_starts(alloc, pattern, name)?;
+    let text = with_name(alloc, pattern.subject.pattern, &starts, name, new)?;
+    let subject = Subject {
+        pattern: text.as_str(),
+        ..pattern.subject
+    };
+    let is_same = match subject.parse()? {
+        Ok(SpannedTree { tree, .. }) => is_renamed(&pattern.parsed.tree, &tree, name, new),
+        Err(_) => false,
+    };
+    Ok(is_same.then_some(text))
+}
+
+/// Writes the change by which the group that is meant at a node gets a new name, or says why there is none.
+pub(crate) fn write_renamed(
+    pattern: ReadPattern<'_, '_, '_>,
+    uri: &str,
+    node: SpannedNode<'_>,
+    new: &str,
+    patterns: &EditedPatterns,
+    writer: &mut Writer,
+) -> Result<Result<(), Refused>, RunError> {
+    let names = Names::of(pattern.subject.alloc, &pattern.parsed.tree)?;
+    let Some(name) = pattern.meant(node).and_then(|number| names.name(number)) else {
+        return Ok(Err(NO_NAME));
+    };
+    let Some(text) = renamed(pattern, name, new)? else {
+        return Ok(Err(OTHER_PATTERN));
+    };
+    let Some(part) = patterns.fixed_to(pattern.located.entry, text.as_str())? else {
+        return Ok(Err(OTHER_PATTERN));
+    };
+    begin_changes(writer, uri)?;
+    write_edit(writer, pattern.located, &part)?;
+    end_changes(writer)?;
+    Ok(Ok(()))
+}
