@@ -156,7 +156,7 @@ fn describe(
     Ok(())
 }
 
-/// Writes what is at the node of this index, in words, and how long its matches are.
+/// Writes what is at the node of this index, in words, and how long its matches are, if that is known.
 fn write_hover(
     pattern: ReadPattern<'_, '_, '_>,
     index: usize,
@@ -172,7 +172,10 @@ fn write_hover(
         }
         _ => describe(pattern, node, &names, &mut words)?,
     }
-    write!(words, "\nmatches: {}", pattern.facts(index)?)?;
+    let facts = pattern.facts(index)?;
+    if facts.0.is_some() {
+        write!(words, "\nmatches: {facts}")?;
+    }
     writer.begin_object()?;
     writer.key("contents")?;
     writer.begin_object()?;
@@ -301,8 +304,7 @@ impl QueryWalk<'_, '_> {
         let Some((index, node)) = path.last().copied() else {
             return Ok(());
         };
-        let (query, uri) = (self.query, self.uri);
-        let writer = &mut *self.writer;
+        let (query, uri, writer) = (self.query, self.uri, &mut *self.writer);
         match query {
             Query::Hover => write_hover(pattern, index, node, writer)?,
             Query::Definition => write_definition(pattern, uri, node, writer)?,
