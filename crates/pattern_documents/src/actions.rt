@@ -8,6 +8,7 @@ use lint_rules::rule::Rule;
 use pattern_files::entry::{Entry, Visitor};
 use pattern_reports::json_lines::fields::write_text;
 use pattern_reports::kept::{PartText, Report};
+use patterns_lint::silenced::PREFIX;
 use patterns_program::edited::EditedPatterns;
 use patterns_text::error::RunError;
 use source_literals::replaced::Replacement;
@@ -70,7 +71,7 @@ fn with_fix(alloc: Global, pattern: &str, fix: &PartText) -> Result<Option<Strin
 
 /// The pattern after a comment that silences the rule in it.
 fn with_silence(alloc: Global, pattern: &str, rule: Rule) -> Result<String, AllocError> {
-    format!(in alloc; "(?#patterns: allow {}){pattern}", rule.name())
+    format!(in alloc; "(?#{PREFIX}{}){pattern}", rule.name())
 }
 
 /// Writes the actions on single reports, and notes the rules of those that can be fixed.

@@ -1,5 +1,5 @@
 //! What is reported on the patterns of a document.
-use crate::document::{OpenDocument, Settings};
+use crate::document::{DocumentSource, OpenDocument, Settings};
 use crate::known::KnownPatterns;
 use crate::ranges::{Located, Locator, write_range};
 use editor_documents::cursor::Cursor;
@@ -128,9 +128,9 @@ fn write_notice(
 
 /// Writes what is reported on the patterns of a document, one after another.
 #[derive(Drop)]
-struct ReportWalk<'u, 'd> {
+struct ReportWalk<'d> {
     alloc: Global,
-    uri: &'u str,
+    uri: &'d str,
     locator: Locator<'d>,
     patterns: &'d mut EditedPatterns,
     /// The patterns before the last change, and those that are there now.
@@ -138,14 +138,14 @@ struct ReportWalk<'u, 'd> {
     new: KnownPatterns,
     /// How many reports are written.
     count: usize,
-    writer: Writer,
+    writer: &'d mut Writer,
 }
 
-impl ReportWalk<'_, '_> {
+impl ReportWalk<'_> {
     /// Writes the reports on a pattern.
     fn write(&mut self, located: Located<'_, '_>, reports: &[Report]) -> Result<(), AllocError> {
         for report in reports {
-            write_report(self.alloc, &mut self.writer, self.uri, located, report)?;
+            write_report(self.alloc, self.writer, self.uri, located, report)?;
         }
         self.count = self.count.saturating_add(reports.len());
         Ok(())
@@ -160,7 +160,7 @@ impl ReportWalk<'_, '_> {
     }
 }
 
-impl Visitor for ReportWalk<'_, '_> {
+impl Visitor for ReportWalk<'_> {
     fn pattern(&mut self, entry: Entry<'_>) -> Result<(), RunError> {
         let located = self.locator.locate(entry);
         let reports = self.reports(entry)?;
@@ -169,7 +169,7 @@ impl Visitor for ReportWalk<'_, '_> {
         if self.count >= MAX_REPORTS {
             let message = format!(in self.alloc; "no more than {MAX_REPORTS} reports are shown")?;
             write_notice(
-                &mut self.writer,
+                self.writer,
                 located.start(),
                 Severity::Notice,
                 message.as_str(),
@@ -182,12 +182,7 @@ impl Visitor for ReportWalk<'_, '_> {
         let (line, column) = unread.position();
         let position = self.locator.position(line, column);
         let message = format!(in self.alloc; "{}", unread.reason)?;
-        write_notice(
-            &mut self.writer,
-            position,
-            Severity::Error,
-            message.as_str(),
-        )?;
+        write_notice(self.writer, position, Severity::Error, message.as_str())?;
         Ok(())
     }
 
@@ -217,40 +212,42 @@ fn end_reports(mut writer: Writer) -> Result<Vec<u8>, AllocError> {
     finish(writer)
 }
 
+/// Writes what is reported on the patterns of a document, and returns these. Those before its last change are given.
+fn write_all(
+    given: Settings<'_>,
+    uri: &str,
+    source: &DocumentSource,
+    patterns: &mut EditedPatterns,
+    known: KnownPatterns,
+    writer: &mut Writer,
+) -> Result<KnownPatterns, RunError> {
+    let alloc = given.alloc;
+    let flags = patterns.flags;
+    let mut walk = ReportWalk {
+        alloc,
+        uri,
+        locator: Locator::new(given.encoding, source.text()),
+        patterns: &mut *patterns,
+        old: known,
+        new: KnownPatterns::none(alloc),
+        count: 0,
+        writer: &mut *writer,
+    };
+    source.visit(given, flags, &mut walk)?;
+    Ok(walk.new)
+}
+
 /// Writes what is reported on the patterns of a document.
 fn write_reports(
     given: Settings<'_>,
     uri: &str,
     document: &mut OpenDocument,
-    writer: Writer,
-) -> Result<Writer, RunError> {
-    let alloc = given.alloc;
-    let flags = document.patterns.flags;
-    let old = mem::replace(&mut document.known, KnownPatterns::none(alloc));
-    let locator = Locator::new(given.encoding, document.source.text());
-    let mut walk = ReportWalk {
-        alloc,
-        uri,
-        locator,
-        patterns: &mut document.patterns,
-        old,
-        new: KnownPatterns::none(alloc),
-        count: 0,
-        writer,
-    };
-    document.source.visit(given, flags, &mut walk)?;
-    let ReportWalk {
-        alloc: _,
-        uri: _,
-        locator: _,
-        patterns: _,
-        old: _,
-        new,
-        count: _,
-        writer,
-    } = walk;
-    document.known = new;
-    Ok(writer)
+    writer: &mut Writer,
+) -> Result<(), RunError> {
+    let known = mem::replace(&mut document.known, KnownPatterns::none(given.alloc));
+    let (source, patterns) = (&document.source, &mut document.patterns);
+    document.known = write_all(given, uri, source, patterns, known, writer)?;
+    Ok(())
 }
 
 /// The notification of what is reported on a document.
@@ -266,7 +263,7 @@ pub fn diagnostics(
         let start = Cursor::start(given.encoding, "").position();
         write_notice(&mut writer, start, Severity::Notice, TOO_LARGE)?;
     } else {
-        writer = write_reports(given, uri, document, writer)?;
+        write_reports(given, uri, document, &mut writer)?;
     }
     Ok(end_reports(writer)?)
 }

@@ -8,7 +8,7 @@ use lint_rules::chosen::{Chosen, Level};
 use lint_rules::rule::Rule;
 
 /// What a comment begins with that silences rules. Their names follow, with commas between.
-const PREFIX: &str = "patterns: allow ";
+pub const PREFIX: &str = "patterns: allow ";
 
 /// The text of a comment without its delimiters; None for a part that is no comment.
 fn comment_text<'p>(trivium: &Trivium, pattern: &'p str) -> Option<&'p str> {

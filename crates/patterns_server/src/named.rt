@@ -3,7 +3,7 @@ use crate::asked::Refused;
 use crate::query::ReadPattern;
 use fancy_syntax::expr::Expr;
 use fancy_syntax::span::Span;
-use fancy_syntax::spanned::{SpannedNode, SpannedTree};
+use fancy_syntax::spanned::SpannedNode;
 use fancy_syntax::tree::ExprTree;
 use json::Writer;
 use json_rpc::error_code::ErrorCode;
@@ -136,6 +136,20 @@ fn is_renamed(old: &ExprTree, new: &ExprTree, name: &str, new_name: &str) -> boo
         && groups.as_slice() == new_groups.as_slice()
 }
 
+/// Whether a text is the pattern with the new name in the place of this one, and without another change.
+fn is_renaming(
+    pattern: ReadPattern<'_, '_, '_>,
+    text: &str,
+    name: &str,
+    new: &str,
+) -> Result<bool, RunError> {
+    let Subject { alloc, flags, .. } = pattern.subject;
+    match Subject::of_argument(alloc, flags, text).parse()? {
+        Ok(parsed) => Ok(is_renamed(&pattern.parsed.tree, &parsed.tree, name, new)),
+        Err(_) => Ok(false),
+    }
+}
+
 /// The pattern with the new name; None if that would be another pattern.
 fn renamed(
     pattern: ReadPattern<'_, '_, '_>,
@@ -145,14 +159,7 @@ fn renamed(
     let alloc = pattern.subject.alloc;
     let starts = name_starts(alloc, pattern, name)?;
     let text = with_name(alloc, pattern.subject.pattern, &starts, name, new)?;
-    let subject = Subject {
-        pattern: text.as_str(),
-        ..pattern.subject
-    };
-    let is_same = match subject.parse()? {
-        Ok(SpannedTree { tree, .. }) => is_renamed(&pattern.parsed.tree, &tree, name, new),
-        Err(_) => false,
-    };
+    let is_same = is_renaming(pattern, text.as_str(), name, new)?;
     Ok(is_same.then_some(text))
 }
 
