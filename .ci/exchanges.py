@@ -13,7 +13,7 @@ from functools import partial
 from pathlib import Path
 from typing import Iterator, NamedTuple, Optional
 
-from programs import DATA, Check, Output, decoded, encoded, path_of
+from programs import DATA, Check, Output, all_of, decoded, encoded, path_of
 
 EXCHANGES = DATA / "exchanges"
 BARRIER = "a message that no client sends"
@@ -118,10 +118,19 @@ def exchange(file: Path) -> Output:
     return Output(played(path_of("patterns"), decoded(file.read_bytes())), "", 0)
 
 
+def unwritten() -> Output:
+    """What comes of an answer that cannot be written."""
+    sent = framed('{"jsonrpc":"2.0","id":1,"method":"initialize","params":{}}')
+    with open("/dev/full", "wb") as full:
+        got = subprocess.run([path_of("patterns"), "server"], input=sent, stdout=full, stderr=subprocess.PIPE, check=False)
+    return Output("", decoded(got.stderr), got.returncode)
+
+
 def parts() -> dict:
     """The checks."""
     files = sorted(EXCHANGES.glob("*.txt"))
-    return {"exchanges": [Check(f"exchanges/{it.name}", partial(exchange, it), decoded(it.read_bytes()), lambda got: got.out) for it in files]}
+    checks = [Check(f"exchanges/{it.name}", partial(exchange, it), decoded(it.read_bytes()), lambda got: got.out) for it in files]
+    return {"exchanges": [*checks, Check("exchanges, not written", unwritten, all_of(3, "", "patterns: cannot write\n"))]}
 
 
 def accept(found: dict) -> int:
