@@ -55,7 +55,7 @@ def edited(editor: Editor) -> Output:
         file = Path(folder) / "words.txt"
         file.write_bytes(encoded(BEFORE))
         env = {**os.environ, "PATTERNS": str(path_of("patterns")), "FILE": str(file), "HOME": folder, "XDG_STATE_HOME": folder}
-        got = subprocess.run(editor.command, cwd=folder, env=env, stdin=subprocess.DEVNULL, capture_output=True, timeout=100, check=False)
+        got = subprocess.run(editor.command, cwd=folder, env=env, stdin=subprocess.DEVNULL, capture_output=True, timeout=300, check=False)
         return Output(decoded(got.stdout) + decoded(file.read_bytes()), decoded(got.stderr), got.returncode)
 
 
@@ -94,7 +94,7 @@ def listed_by_vim() -> Output:
         env = {**os.environ, "PATH": f"{folder}:{os.environ['PATH']}", "HOME": folder, "XDG_STATE_HOME": folder}
         commands = ("source page.vim", "edit words.txt", "silent make", "luafile list.lua", "quitall!")
         words = ["nvim", "--headless", "--clean", *(it for one in commands for it in ("-c", one))]
-        got = subprocess.run(words, cwd=folder, env=env, stdin=subprocess.DEVNULL, capture_output=True, timeout=100, check=False)
+        got = subprocess.run(words, cwd=folder, env=env, stdin=subprocess.DEVNULL, capture_output=True, timeout=300, check=False)
         return Output(decoded(got.stdout), decoded(got.stderr), got.returncode)
 
 

@@ -71,7 +71,7 @@ def is_right(got: Session, wanted: Session) -> bool:
 
 def refused(program: str, library: str, file: Path) -> int:
     """Refuses each request in an exchange, and returns how many there were."""
-    sent = b"".join(it.sent for it in parts_of(decoded(file.read_bytes())) if it.sent)
+    sent = b"".join(it.sent for it in parts_of(decoded(file.read_bytes())) if it.sent and not it.file)
     wanted = played(program, sent, {})
     for number in count(1):
         got = played(program, sent, {"REFUSED_REQUEST": str(number), "LD_PRELOAD": library})
