@@ -6,11 +6,11 @@
 
 (define-derived-mode patterns-mode fundamental-mode "Patterns")
 (add-to-list 'eglot-server-programs `(patterns-mode . (,(getenv "PATTERNS") "server")))
-(setq make-backup-files nil eglot-autoshutdown nil eglot-sync-connect 20 eglot-connect-timeout 20)
+(setq make-backup-files nil eglot-autoshutdown nil eglot-sync-connect 60 eglot-connect-timeout 60)
 
 (defun wait-until (is-so what)
   "Waits until `is-so' returns a value, and returns that."
-  (let ((end (time-add nil 20)) found)
+  (let ((end (time-add nil 60)) found)
     (while (not (setq found (funcall is-so)))
       (when (time-less-p end nil) (error "%s" what))
       (accept-process-output nil 0.05))

@@ -7,12 +7,12 @@ local function run()
   vim.bo.filetype = "patterns"
   local client = vim.lsp.start_client({ name = "patterns", cmd = { vim.env.PATTERNS, "server" }, root_dir = vim.fn.getcwd() })
   vim.lsp.buf_attach_client(buffer, client)
-  assert(vim.wait(20000, function() return #vim.diagnostic.get(buffer) > 0 end, 50), "nothing is reported")
+  assert(vim.wait(60000, function() return #vim.diagnostic.get(buffer) > 0 end, 50), "nothing is reported")
 
   -- What the server answers to a request about the document.
   local function asked(method, params)
     params.textDocument = { uri = vim.uri_from_bufnr(buffer) }
-    local results, problem = vim.lsp.buf_request_sync(buffer, method, params, 20000)
+    local results, problem = vim.lsp.buf_request_sync(buffer, method, params, 60000)
     assert(results, problem)
     local _, answer = next(results)
     assert(answer.result, vim.inspect(answer))

@@ -13,7 +13,7 @@ from pathlib import Path
 from typing import Iterator, NamedTuple
 
 import transcripts
-from programs import CRATES, TOP, Check, Output, Run, all_of
+from programs import CRATES, TOP, Check, Output, Run, all_of, output_of
 
 PAGES = ("README.md", "docs/library.md", "docs/cli.md", "docs/format.md", "docs/lint.md")
 LETTERS = {"FLAG_UNICODE": "u", "FLAG_ONIGURUMA_MODE": "o"}
@@ -150,11 +150,29 @@ def list_check() -> Check:
     return Check("docs/lint.md: the rules", Run("patterns", ("lint", "--rules")), wanted, listed_rules)
 
 
+def wrongly_explained() -> Output:
+    """The patterns of `lint --explain` that their rule does not report, and those to write that it does. The status is 1 if there are no
+    patterns."""
+    listed = output_of(Run("patterns", ("lint", "--explain", "all"))).out
+    wrong, count = [], 0
+    for rule, below in re.findall(r"^(\S+): .*\n((?:  .*\n)+)", listed, flags=re.M):
+        for kind, pattern in re.findall(r"  (found|write): (.*)\n", below):
+            got = reported(rule, output_of(Run("patterns", ("lint", "--quiet", "--warn", rule), pattern + "\n")))
+            count += 1
+            if got != {"found": "reported\n", "write": "silent\n"}[kind]:
+                wrong.append(f"{rule}: {kind}: {pattern}: {got}")
+    return Output("".join(wrong), "", 0 if count else 1)
+
+
 def parts() -> dict:
     """The checks of each page and each table."""
     return {
         **{page: list(page_checks(page)) for page in PAGES},
         "quotations": list(quotations()),
         "docs/library.md, errors": list(error_checks()),
-        "docs/lint.md, rules": [*rule_checks(), list_check()],
+        "docs/lint.md, rules": [
+            *rule_checks(),
+            list_check(),
+            Check("lint --explain: patterns of programs", wrongly_explained, "status 0\nerrors:\n"),
+        ],
     }

@@ -1,8 +1,10 @@
 """Random messages to `patterns server`, for `.ci/runs`; by itself `.ci/random_messages.py PROGRAM [COUNT [SEED]]`.
 
-Documents are opened, changed at random, whole and by ranges, and closed. What is reported after a change has to be what is reported when
-the text is opened that the changes lead to by the protocol, which is computed here. A change at a position that a document does not have
-has to be refused, and the document to stay as it was. Each request has to get one answer.
+Documents, lines of patterns and grammars of TextMate, are opened, changed at random, whole and by ranges, and closed. What is reported
+after a change has to be what is reported when the text is opened that the changes lead to by the protocol, which is computed here. A
+change at a position that a document does not have has to be refused, and the document to stay as it was. Each request has to get one
+answer, and what is no JSON a refusal. Each range has to be in the document, edits not to overlap, and a text that was formatted to stay
+when it is formatted again.
 """
 import json
 import random
@@ -10,13 +12,16 @@ import re
 import subprocess
 import sys
 import tempfile
+from functools import partial
 from pathlib import Path
 from typing import Optional
 
 from exchanges import framed, message
-from programs import Check, Output, path_of
+from programs import TRIED, Check, Output, path_of
 
-COUNT = 400
+# How many sequences each check sends, and how many if the program is built without proof, which is slow.
+COUNT, TRIED_COUNT = 500, 50
+SEEDS = (1, 2, 3, 4)
 
 ALPHABET = ["a", "b", "(", ")", "|", "*", "{1}", "[a]", "[", "]", "\\d", "\\", "é", "𝄞", "\n", "\r", "\r\n", "?", "(?<n>", "\\k<n>", "#"]
 LINE_ENDS = ("\n", "\r")
@@ -70,9 +75,27 @@ def changed(text: str, changes: list, utf8: bool) -> Optional[str]:
     return text
 
 
+def edited(text: str, edits: list, utf8: bool) -> str:
+    """The text after edits, which have to be in it, and not to overlap."""
+    spans = [tuple(index_of(text, it["range"][end], utf8) for end in ("start", "end")) + (it["newText"],) for it in edits]
+    assert all(None not in it for it in spans), (text, edits)
+    done, parts = 0, []
+    for start, end, new in sorted(spans):
+        assert done <= start <= end, (text, edits)
+        parts += [text[done:start], new]
+        done = end
+    return "".join(parts) + text[done:]
+
+
 def some_text(rng: random.Random) -> str:
     """A short text."""
     return "".join(rng.choice(ALPHABET) for _ in range(rng.randrange(12)))
+
+
+def some_grammar(rng: random.Random) -> str:
+    """A grammar of TextMate with some patterns."""
+    patterns = [{rng.choice(("match", "begin", "end", "name")): some_text(rng)} for _ in range(rng.randrange(4))]
+    return json.dumps({"patterns": patterns}, ensure_ascii=rng.random() < 0.5, indent=rng.choice((None, 1)))
 
 
 def some_position(rng: random.Random, text: str) -> dict:
@@ -130,6 +153,13 @@ class Client:
         """The notifications that have come."""
         return self.ask("barrier", {})[1]
 
+    def garbage(self, data: bytes) -> None:
+        """Sends what is no JSON, which has to be refused."""
+        self.process.stdin.write(b"Content-Length: %d\r\n\r\n%b" % (len(data), data))
+        self.process.stdin.flush()
+        got = json.loads(message(self.process.stdout))
+        assert got["id"] is None and got["error"]["code"] == -32700, (data, got)
+
 
 def diagnostics(notes: list, uri: str) -> Optional[list]:
     """What is reported last on a document."""
@@ -137,20 +167,40 @@ def diagnostics(notes: list, uri: str) -> Optional[list]:
     return json.loads(json.dumps(found[-1]).replace(uri, "")) if found else None
 
 
-def request(rng: random.Random, client: Client, uri: str, text: str) -> None:
-    """Asks for something at random."""
+def some_request(rng: random.Random, uri: str, text: str) -> tuple:
+    """A request about a document: its method, and its parameters, of which one may be missing."""
     position = some_position(rng, text)
     ends = {"start": some_position(rng, text), "end": some_position(rng, text)}
     params = {"textDocument": {"uri": uri}, "position": position, "range": ends, "positions": [position], "newName": "m", "context": {}}
     for name in rng.sample(sorted(params), rng.randrange(2)):
         del params[name]
-    client.ask("textDocument/" + rng.choice(REQUESTS), params)
+    return "textDocument/" + rng.choice(REQUESTS), params
+
+
+def request(rng: random.Random, client: Client, document: dict, utf8: bool) -> None:
+    """Asks for something at random."""
+    uri, text = document["uri"], document["text"]
+    method, params = some_request(rng, uri, text)
+    result = client.ask(method, params)[0].get("result")
+    if result and method in ("textDocument/rangeFormatting", "textDocument/formatting"):
+        fresh = {**document, "uri": "untitled:c", "text": edited(text, result, utf8)}
+        client.send(method="textDocument/didOpen", params={"textDocument": fresh})
+        again = client.ask(method, {**params, "textDocument": {"uri": "untitled:c"}})[0]
+        client.send(method="textDocument/didClose", params={"textDocument": {"uri": "untitled:c"}})
+        assert method != "textDocument/formatting" or again["result"] == [], (text, result, again)
+    for it in result or [] if method == "textDocument/codeAction" else []:
+        edited(text, it["edit"]["changes"][uri], utf8)
+    if result and method == "textDocument/rename":
+        edited(text, result["changes"][uri], utf8)
+    if rng.random() < 0.05:
+        client.garbage(b"{" + some_text(rng).encode("utf-8"))
 
 
 def sequence(rng: random.Random, client: Client, utf8: bool) -> int:
     """A document that is opened, changed and closed; how many messages there were."""
-    uri, text = "untitled:a", some_text(rng)
-    document = {"uri": uri, "languageId": "patterns", "version": 1, "text": text}
+    language, some = rng.choice((("patterns", some_text), ("textmate", some_grammar)))
+    uri, text = "untitled:a", some(rng)
+    document = {"uri": uri, "languageId": language, "version": 1, "text": text}
     client.send(method="textDocument/didOpen", params={"textDocument": document})
     count = 2
     for version in range(2, 2 + rng.randrange(8)):
@@ -166,11 +216,30 @@ def sequence(rng: random.Random, client: Client, utf8: bool) -> int:
             client.send(method="textDocument/didOpen", params={"textDocument": fresh})
             client.send(method="textDocument/didClose", params={"textDocument": {"uri": "untitled:b"}})
             wanted = [it for it in client.reports() if it["params"].get("uri") == "untitled:b"][0:1]
-            assert diagnostics(notes, uri) == diagnostics(wanted, "untitled:b"), (text, changes, notes, wanted)
-        request(rng, client, uri, text)
+            found = diagnostics(notes, uri)
+            assert found == diagnostics(wanted, "untitled:b"), (text, changes, notes, wanted)
+            edited(text, [{"range": {**it["range"], "start": it["range"]["end"]}, "newText": ""} for it in found], utf8)
+            edited(text, [{"range": {**it["range"], "end": it["range"]["start"]}, "newText": ""} for it in found], utf8)
+        request(rng, client, {**document, "text": text}, utf8)
         count += 4
     client.send(method="textDocument/didClose", params={"textDocument": {"uri": uri}})
     return count
+
+
+def session(rng: random.Random) -> bytes:
+    """All messages of a client that opens a document, changes it, and asks for something after each change."""
+    sent = [{"id": 0, "method": "initialize", "params": {"capabilities": {}}}]
+    language, some = rng.choice((("patterns", some_text), ("textmate", some_grammar)))
+    uri, text = "untitled:a", some(rng)
+    sent.append({"method": "textDocument/didOpen", "params": {"textDocument": {"uri": uri, "languageId": language, "version": 1, "text": text}}})
+    for number in range(1, 6):
+        changes = [some_change(rng, text)]
+        sent.append({"method": "textDocument/didChange", "params": {"textDocument": {"uri": uri, "version": number}, "contentChanges": changes}})
+        text = changed(text, changes, False) or text
+        method, params = some_request(rng, uri, text)
+        sent.append({"id": number, "method": method, "params": params})
+    sent += [{"id": 6, "method": "shutdown"}, {"method": "exit"}]
+    return b"".join(framed(json.dumps({"jsonrpc": "2.0", **it})) for it in sent)
 
 
 def played(program: Path, total: int, seed: int) -> str:
@@ -190,8 +259,14 @@ def played(program: Path, total: int, seed: int) -> str:
 
 def parts() -> dict:
     """The checks."""
-    run = lambda: Output(re.sub(r", \d+", ", N", played(path_of("patterns"), COUNT, 1)), "", 0)
-    return {"random messages": [Check("random messages", run, f"{COUNT} sequences, N messages\n", lambda got: got.out)]}
+
+    def run(seed: int) -> Output:
+        return Output(played(path_of("patterns"), TRIED_COUNT if TRIED else COUNT, seed), "", 0)
+
+    def taken(got: Output) -> str:
+        return re.sub(r"\d+", "N", got.out)
+
+    return {"random messages": [Check(f"random messages {it}", partial(run, it), "N sequences, N messages\n", taken) for it in SEEDS]}
 
 
 def main() -> int:

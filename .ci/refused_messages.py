@@ -1,5 +1,6 @@
-"""Exchanges with `patterns server` in which each request for memory is refused in turn: `.ci/refused_messages.py PROGRAM REFUSE`, for
-`.ci/refused-memory`, where REFUSE is the built `refuse.c`.
+"""Exchanges with `patterns server` in which each request for memory is refused in turn, and random sessions in which some are:
+`.ci/refused_messages.py PROGRAM REFUSE [COUNT [SEED]]`, for `.ci/refused-memory`, where REFUSE is the built `refuse.c`, and COUNT the number
+of sessions.
 
 The server gets all messages of an exchange at once. It has to answer each request once, with the result that it has without a refusal, or that
 memory ran out, without an id if the request was not read; or to end with status 3, after a part of its answers. After a message that is not
@@ -7,6 +8,7 @@ done it may answer otherwise.
 """
 import json
 import os
+import random
 import subprocess
 import sys
 import tempfile
@@ -18,8 +20,12 @@ from typing import NamedTuple
 
 from exchanges import EXCHANGES, message, parts_of
 from programs import decoded
+from random_messages import session
 
 INTERNAL = -32603
+SESSIONS = 200
+# How many requests for memory a session has at most of which one is refused.
+REQUESTS = 1200
 
 
 class Session(NamedTuple):
@@ -65,7 +71,7 @@ def is_right(got: Session, wanted: Session) -> bool:
 
 def refused(program: str, library: str, file: Path) -> int:
     """Refuses each request in an exchange, and returns how many there were."""
-    sent = b"".join(it.sent for it in parts_of(decoded(file.read_bytes())) if it.sent)
+    sent = b"".join(it.sent for it in parts_of(decoded(file.read_bytes())) if it.sent and not it.file)
     wanted = played(program, sent, {})
     for number in count(1):
         got = played(program, sent, {"REFUSED_REQUEST": str(number), "LD_PRELOAD": library})
@@ -74,13 +80,28 @@ def refused(program: str, library: str, file: Path) -> int:
             return number - 1
 
 
+def refused_at_random(program: str, library: str, seed: int) -> int:
+    """Refuses some requests, each in a session of its own, and returns how many were refused."""
+    rng = random.Random(seed)
+    sent = session(rng)
+    wanted, total = played(program, sent, {}), 0
+    for number in (rng.randrange(1, REQUESTS + 1) for _ in range(4)):
+        got = played(program, sent, {"REFUSED_REQUEST": str(number), "LD_PRELOAD": library})
+        assert is_right(got, wanted), (sent, number, got.status, got.messages)
+        total += got.is_refused
+    return total
+
+
 def main() -> int:
-    """Plays all exchanges."""
+    """Plays all exchanges, and sessions."""
+    program, library = sys.argv[1:3]
+    total, first = (int(sys.argv[at]) if len(sys.argv) > at else it for at, it in ((3, SESSIONS), (4, 1)))
     files = sorted(EXCHANGES.glob("*.txt"))
     with ThreadPoolExecutor(os.cpu_count()) as pool:
-        counts = list(pool.map(lambda it: refused(*sys.argv[1:3], it), files))
-    print(f"{len(files)} exchanges with a server: {sum(counts)} requests refused")
-    return 0
+        counts = list(pool.map(lambda it: refused(program, library, it), files))
+        some = sum(pool.map(lambda it: refused_at_random(program, library, it), range(first, first + total)))
+    print(f"{len(files)} exchanges with a server: {sum(counts)} requests refused; {total} sessions: {some}")
+    return 0 if some else 1
 
 
 if __name__ == "__main__":

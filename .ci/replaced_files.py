@@ -1,8 +1,8 @@
 """Files that are replaced, and pipes, for `.ci/runs`.
 
 A file that is written keeps its owner, its group and its permissions up to 0777; it stays where these cannot be kept, where it has
-several hard links, is a pipe, has changed since it was read, or another run writes it; and what a killed run left is removed. A pipe is
-not read as a configuration. Only root tries what needs another owner.
+several hard links, is a pipe, has changed since it was read, or another run writes it; and what a killed run left is removed. The same
+holds for a large file, which is written while it is read. A pipe is not read as a configuration. Only root tries what needs another owner.
 """
 import fcntl
 import os
@@ -21,15 +21,17 @@ from tables import LONG
 NEW = "file.patterns.tmp"
 NOBODY = 65534
 NOT_REGULAR = "it is not a regular file"
+# What follows the first line of a file that is written while it is read.
+REST = b"\n" + b"(?#" + b"c" * LONG + b")\n"
 FIXING_FILE = ("lint", "--fix", "--quiet", "--allow", "all", "--warn", "duplicate-branch", "file")
 
 
 def entries_of(folder: Path) -> str:
-    """The entries of a folder: the bytes of each that is a regular file, its permissions, its owner and its group."""
+    """The entries of a folder: the bytes of each that is a regular file, up to `REST`, its permissions, its owner and its group."""
     found = []
     for it in sorted(folder.iterdir()):
         known = it.lstat()
-        data = it.read_bytes() if stat.S_ISREG(known.st_mode) else b""
+        data = it.read_bytes().removesuffix(REST) if stat.S_ISREG(known.st_mode) else b""
         found.append(f"{it.name} {data} {known.st_mode:o} {known.st_uid}:{known.st_gid}\n")
     return "".join(found)
 
@@ -51,9 +53,9 @@ def output_in_time(words: list, folder: Path, **options) -> Output:
 # ---- owners, links, and what other runs leave
 
 
-def replaced(prepare: Callable, user: int) -> Output:
-    """What a user makes of a folder of everybody with the file `a|a`, after something was done with that. What `prepare`
-    returns is closed after the run."""
+def replaced(prepare: Callable, user: int, rest: bytes) -> Output:
+    """What a user makes of a folder of everybody with the file `a|a`, with a rest behind that, after something was done with it. What
+    `prepare` returns is closed after the run."""
     with tempfile.TemporaryDirectory() as name:
         folder = Path(name) / "folder"
         folder.mkdir()
@@ -63,7 +65,7 @@ def replaced(prepare: Callable, user: int) -> Output:
         # by a process of its own: a file that another thread's process still has open for writing cannot be run
         subprocess.run(["cp", path_of("patterns"), program], check=True)
         file = folder / "file"
-        file.write_bytes(b"a|a")
+        file.write_bytes(b"a|a" + rest)
         file.chmod(0o644)
         held = prepare(file)
         options = {"user": user, "group": user, "extra_groups": []} if user else {}
@@ -125,15 +127,17 @@ def replacements() -> Iterator[Check]:
     """The rows above, which only root can run."""
     for number, (prepare, user, state, reason) in enumerate(REPLACEMENTS):
         error = f"patterns: file: cannot be written: {reason}\n" if reason else ""
-        yield Check(f"a replaced file {number}", partial(replaced, prepare, user), all_of(2 if reason else 0, state, error))
+        wanted = all_of(2 if reason else 0, state, error)
+        yield Check(f"a replaced file {number}", partial(replaced, prepare, user, b""), wanted)
+        yield Check(f"a large replaced file {number}", partial(replaced, prepare, user, REST), wanted)
 
 
 # ---- files that change
 
 
-def stopped_before_renaming(file: Path):
-    """A run that changes a file, and whether it is stopped before it renames the new file."""
-    words = [path_of("patterns"), *FIXING_FILE, "--keys", "match"]
+def stopped_before_renaming(file: Path, more: tuple):
+    """A run that changes a file, with more words, and whether it is stopped before it renames the new file."""
+    words = [path_of("patterns"), *FIXING_FILE, *more]
     process = subprocess.Popen(words, cwd=file.parent, stdout=subprocess.DEVNULL, stderr=subprocess.PIPE)
     while process.poll() is None and not file.with_name(NEW).exists():
         pass
@@ -143,14 +147,13 @@ def stopped_before_renaming(file: Path):
     return process, file.with_name(NEW).exists()
 
 
-def changed_while_read() -> Output:
-    """What comes of a file to which a line is added after it was read, and before the new file is renamed."""
-    text = b'{"match": "a|a", "other": "' + b"b" * LONG + b'"}\n'
+def changed_while_read(text: bytes, more: tuple) -> Output:
+    """What comes of a file with this text, which is read with more words, and to which a line is added before the new file is renamed."""
     with tempfile.TemporaryDirectory() as name:
         file = Path(name) / "file"
         for _ in range(100):
             file.write_bytes(text)
-            process, is_caught = stopped_before_renaming(file)
+            process, is_caught = stopped_before_renaming(file, more)
             if is_caught:
                 file.write_bytes(text + b"\n")
             process.send_signal(signal.SIGCONT)
@@ -204,7 +207,9 @@ def pipes() -> Iterator[Check]:
     said = "patterns: file: cannot be written: "
     yield Check("a pipe that is fixed", fixed_pipe, all_of(2, "", f"{said}{NOT_REGULAR}\n"))
     wanted = all_of(2, "True ['file']\n", f"{said}it has changed since it was read\n")
-    yield Check("a file that changes while it is read", changed_while_read, wanted)
+    grammar = b'{"match": "a|a", "other": "' + b"b" * LONG + b'"}\n'
+    yield Check("a file that changes while it is read", partial(changed_while_read, grammar, ("--keys", "match")), wanted)
+    yield Check("a large file that changes while it is read", partial(changed_while_read, b"a|a" + REST, ()), wanted)
 
 
 def parts() -> dict:

@@ -49,6 +49,14 @@ pub enum Rule {
     DialectDifference,
 }
 
+/// A pattern of a program, with a mistake.
+#[derive(Clone, Copy)]
+pub struct Found {
+    pub pattern: &'static str,
+    /// The pattern without the mistake.
+    pub instead: &'static str,
+}
+
 /// What is known of a rule.
 #[derive(Clone, Copy)]
 pub struct RuleRow {
@@ -65,6 +73,8 @@ pub struct RuleRow {
     pub example: &'static str,
     /// What to do about a report.
     pub help: &'static str,
+    /// Patterns of programs that it reports.
+    pub found: &'static [Found],
     /// How its reports are fixed; none if there is no plain edit.
     pub fix: Option<FixKind>,
 }
@@ -78,6 +88,7 @@ const WARNS: RuleRow = RuleRow {
     what: "",
     example: "",
     help: "",
+    found: &[],
     fix: None,
 };
 
@@ -122,6 +133,10 @@ pub static RULES: [RuleRow; 34] = [
         what: "a back reference to a group that cannot have matched yet",
         example: r"\1(a)",
         help: "move it after the group, or make it a subroutine call",
+        found: &[Found {
+            pattern: r"\0$",
+            instead: r"\x00$",
+        }],
         ..WARNS
     },
     RuleRow {
@@ -165,6 +180,10 @@ pub static RULES: [RuleRow; 34] = [
         what: "a branch that is equal to an earlier one",
         example: r"a|b|a",
         help: "remove it",
+        found: &[Found {
+            pattern: r"(repeat|until|then|true|false|var|struct|typedef|export|auto|extern|var|static)\b",
+            instead: r"(repeat|until|then|true|false|var|struct|typedef|export|auto|extern|static)\b",
+        }],
         fix: Some(FixKind::DuplicateBranch),
         ..WARNS
     },
@@ -174,6 +193,16 @@ pub static RULES: [RuleRow; 34] = [
         what: "a branch that never matches, since an earlier one matches wherever it would, and nothing follows",
         example: r"#(?:if|ifdef)",
         help: "put it before the earlier branch, or remove it",
+        found: &[
+            Found {
+                pattern: r"[{}.]|\.\.",
+                instead: r"\.\.|[{}.]",
+            },
+            Found {
+                pattern: r"[-+*/%^|&]|\*\*|\|\|",
+                instead: r"\*\*|\|\||[-+*/%^|&]",
+            },
+        ],
         ..WARNS
     },
     RuleRow {
@@ -182,6 +211,10 @@ pub static RULES: [RuleRow; 34] = [
         what: "an escape in a loop, of which an earlier branch matches the backslash",
         example: r#""(?:[^"]|\\")*""#,
         help: "add the backslash to the characters that the earlier branch excludes",
+        found: &[Found {
+            pattern: r#""([^"]|\\")*""#,
+            instead: r#""([^"\\]|\\")*""#,
+        }],
         ..WARNS
     },
     RuleRow {
@@ -206,6 +239,10 @@ pub static RULES: [RuleRow; 34] = [
         what: "an assertion that never holds, by the characters beside it",
         example: r"a^b",
         help: r"remove it, or write it so that it is the character, as `\$`, or `<` for `\<`",
+        found: &[Found {
+            pattern: r"\]\]\>",
+            instead: r"\]\]>",
+        }],
         ..WARNS
     },
     RuleRow {
@@ -214,6 +251,10 @@ pub static RULES: [RuleRow; 34] = [
         what: "a look-around whose contents match everywhere, since they may be empty",
         example: r"a(?=b*)c",
         help: "let its contents match at least one character, or remove it",
+        found: &[Found {
+            pattern: r"(?=[\s]*)(\w+)(?=[\s]*=)",
+            instead: r"(\w+)(?=[\s]*=)",
+        }],
         ..WARNS
     },
     RuleRow {
@@ -230,6 +271,10 @@ pub static RULES: [RuleRow; 34] = [
         what: "a lazy quantifier at the end, which repeats only its minimum",
         example: r"#.*?",
         help: "make it greedy, or write after it what ends the match, as `$`",
+        found: &[Found {
+            pattern: r#"[^"`$]+?"#,
+            instead: r#"[^"`$]+"#,
+        }],
         ..WARNS
     },
     RuleRow {
@@ -247,6 +292,10 @@ pub static RULES: [RuleRow; 34] = [
         what: "a quantifier that repeats exactly once",
         example: r"a{1}",
         help: "remove the quantifier",
+        found: &[Found {
+            pattern: r"region/(?P<region>[a-z]{2}-[a-z]+-\d{1})",
+            instead: r"region/(?P<region>[a-z]{2}-[a-z]+-\d)",
+        }],
         fix: Some(FixKind::UselessQuantifier),
         ..WARNS
     },
@@ -264,6 +313,10 @@ pub static RULES: [RuleRow; 34] = [
         what: "a repeat that can match a text in exponentially many ways, if what follows can fail",
         example: r"(a+)+b",
         help: "make it possessive or atomic, or let its parts match different characters",
+        found: &[Found {
+            pattern: r#"@"(\\.|.)*?""#,
+            instead: r#"@"(\\.|[^"\\])*""#,
+        }],
         ..WARNS
     },
     RuleRow {
@@ -291,6 +344,10 @@ pub static RULES: [RuleRow; 34] = [
         what: "a class of one letter or digit",
         example: r"[a]b",
         help: "write the character without brackets",
+        found: &[Found {
+            pattern: r"\.(?!\.)[0-9_]*[f]*",
+            instead: r"\.(?!\.)[0-9_]*f*",
+        }],
         fix: Some(FixKind::SingleCharacterClass),
         ..WARNS
     },
@@ -317,6 +374,10 @@ pub static RULES: [RuleRow; 34] = [
         what: "characters in a class that the rest of the class contains already",
         example: r"[a-zc]",
         help: "remove them",
+        found: &[Found {
+            pattern: r"[//'].*$",
+            instead: r"[/'].*$",
+        }],
         fix: Some(FixKind::DuplicateCharacters),
         ..WARNS
     },
@@ -336,6 +397,10 @@ pub static RULES: [RuleRow; 34] = [
         what: "a class with needless characters that looks like alternatives, a word or a POSIX class",
         example: r"[get|set]",
         help: "write each character once, or what is meant",
+        found: &[Found {
+            pattern: r"[\+|\-]",
+            instead: r"[+\-]",
+        }],
         ..WARNS
     },
     RuleRow {
@@ -353,6 +418,10 @@ pub static RULES: [RuleRow; 34] = [
         what: "a range between punctuation that is likely meant as a hyphen",
         example: r"[+-/]",
         help: "write a backslash before the hyphen, or put the hyphen last",
+        found: &[Found {
+            pattern: r"def(?=[*%&^`~+-/\[<>=])",
+            instead: r"def(?=[*%&^`~+\-/\[<>=])",
+        }],
         ..WARNS
     },
     RuleRow {
@@ -361,6 +430,10 @@ pub static RULES: [RuleRow; 34] = [
         what: "a branch of one character that another branch matches too",
         example: r"\d|\w",
         help: "remove it",
+        found: &[Found {
+            pattern: r"(\s)(//[^/]+//)((?=\W|\n))",
+            instead: r"(\s)(//[^/]+//)((?=\W))",
+        }],
         ..WARNS
     },
     RuleRow {
@@ -425,28 +498,45 @@ impl Rule {
     }
 }
 
-/// Writes the rules to `out`, two lines each: the name, what the rule reports, an example, what its reports are by default,
-/// and whether `--fix` fixes them; and what to do about a report.
-pub fn write_rules<O: Write>(out: &mut O) -> Result<(), RunError> {
-    for row in RULES.iter() {
+impl RuleRow {
+    /// Writes the rule in two lines: the name, what the rule reports, an example, what its reports are by default, and
+    /// whether `--fix` fixes them; and what to do about a report.
+    fn write<O: Write>(&self, out: &mut O) -> Result<(), RunError> {
         let RuleRow {
             name,
             what,
             example,
             help,
             ..
-        } = row;
-        let level = row.level.name();
-        let in_json = if row.is_silent_in_json {
+        } = self;
+        let level = self.level.name();
+        let in_json = if self.is_silent_in_json {
             ", off in JSON"
         } else {
             ""
         };
-        let fixed = if row.fix.is_some() { ", fixed" } else { "" };
+        let fixed = if self.fix.is_some() { ", fixed" } else { "" };
         writeln!(
             out,
             "{name}: {what}, as in {example} [{level}{in_json}{fixed}]\n  help: {help}"
         )?;
+        Ok(())
+    }
+
+    /// Writes the rule to `out`, and the patterns of programs.
+    pub fn explain<O: Write>(&self, out: &mut O) -> Result<(), RunError> {
+        self.write(out)?;
+        for Found { pattern, instead } in self.found {
+            writeln!(out, "  found: {pattern}\n  write: {instead}")?;
+        }
+        Ok(())
+    }
+}
+
+/// Writes the rules to `out`, two lines each.
+pub fn write_rules<O: Write>(out: &mut O) -> Result<(), RunError> {
+    for row in RULES.iter() {
+        row.write(out)?;
     }
     Ok(())
 }

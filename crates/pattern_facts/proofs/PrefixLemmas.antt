@@ -23,7 +23,7 @@ use Rattle.pattern_matches.proofs.CharacterLemmas.{same_ranges}
 use Rattle.pattern_facts.specs.Bytes.{IsCharacterOf}
 use Rattle.pattern_facts.specs.Known.{is_empty_leaf}
 use Rattle.pattern_facts.specs.Lengths.{row_of}
-use Rattle.pattern_facts.specs.Prefix.{ArePrefixed, HasPrefix, IsOr, IsPrefix, IsPrefixOfSet, IsPrefixed, IsRepeated, IsSettled, IsTaken, IsText, IsTextAndMore, IsThen}
+use Rattle.pattern_facts.specs.Prefix.{ArePrefixed, HasPrefix, IsOr, IsPrefix, IsPrefixOfSet, IsPrefixed, IsRepeated, IsSettled, IsTaken, IsText, IsTextAndMore, IsThen, IsWhole}
 use Rattle.pattern_facts.specs.declared.lengths.ListKind.{ListKind}
 use Rattle.pattern_facts.specs.declared.lengths.ListKind.TheVariants as kind
 use Rattle.pattern_facts.specs.declared.prefix.Prefix.{Prefix}
@@ -466,6 +466,39 @@ then_put u kind.Concat all rest t x next put is f h n = record {
   defined = λ d. h.defined (n.defined, d);
   unknown = λ l. h.unknown (inr l);
 }
+
+-- a character after a text that is the whole of each match
+letter_goes : (u : Bool) (s : Assertions) (rest : Trees) (c : ℕ) (x put : Prefix) → IsScalar c → x.is_whole ≡ true →
+    put.characters.items ≡ x.characters.items ++ c ∷ [] → (p q : Position) →
+    IsTaken kind.Concat x (RowMatches u s label.concat (more_trees (literal (c ∷ []) false) rest)) p q →
+    IsTaken kind.Concat put (RowMatches u s label.concat rest) p q
+letter_goes u s rest c x put scalar is_all both p q (inl k) = absurd (false≢true (sym k.0 ∙ is_all))
+letter_goes u s rest c x put scalar is_all both p q (inr k) =
+    let w = x.characters.items in
+    let here = one_text (HasCharacter u (literal (c ∷ []) false)) c (only_it u c scalar) k.0 k.2.middle k.2.first in
+    inr (
+      k.2.middle,
+      text_as (w ++ c ∷ []) put.characters.items p k.2.middle (sym both)
+          (text_then w (c ∷ []) p k.0 k.2.middle k.1 here),
+      k.2.second,
+    )
+
+letter_put : (u : Bool) (all rest : Trees) (c : ℕ) (x put : Prefix) → IsScalar c → x.is_whole ≡ true →
+    put.characters.items ≡ x.characters.items ++ c ∷ [] →
+    ArePrefixed u kind.Concat all (more_trees (literal (c ∷ []) false) rest) x → ArePrefixed u kind.Concat all rest put
+letter_put u all rest c x put scalar is_all both h = record {
+  begins = λ s p q m. letter_goes u s rest c x put scalar is_all both p q (h.begins s p q m);
+  defined = λ d. h.defined (plain_defined u c scalar, d);
+  unknown = λ l. h.unknown (inr l);
+}
+
+pub character_put : (u : Bool) (k : ListKind) (all rest : Trees) (t : Tree) (c : ℕ) (x put : Prefix) → IsScalar c →
+    t ≡ literal (c ∷ []) false → IsWhole k (Some x) → put.characters.items ≡ x.characters.items ++ c ∷ [] →
+    ArePrefixed u k all (more_trees t rest) x → ArePrefixed u k all rest put
+character_put u kind.Concat all rest t c x put scalar is is_all both h =
+    letter_put u all rest c x put scalar is_all both
+    (subst (λ y. ArePrefixed u kind.Concat all (more_trees y rest) x) is h)
+character_put u kind.Alt all rest t c x put scalar is is_all both h = absurd is_all
 
 same_len : (v : Text) → take (common_prefix_len nat_eq v v) v ≡ v
 same_len [] = refl

@@ -34,6 +34,11 @@ abbrev pub IsPrefix : Bool → Tree → Option Prefix → Type 0
 IsPrefix unicode t None = IsUnknown unicode t
 IsPrefix unicode t (Some x) = HasPrefix unicode t x
 
+-- it is the whole of each match of a concatenation
+abbrev pub IsWhole : ListKind → Option Prefix → Type 0
+IsWhole kind.Concat (Some x) = x.is_whole ≡ true
+IsWhole k o = ⊥
+
 -- it is the prefix of a list of trees, whatever trees follow
 abbrev pub IsSettled : ListKind → Option Prefix → Type 0
 IsSettled k None = ⊥

@@ -1,15 +1,17 @@
 //! The text that the matches of a node begin with.
-ghost use Rattle.std.specs.Prelude.{◌≡◌, ℕ, ◌≤◌, true, Bool, IfOk, IfSome, nat_eq, length, [], ◌∷◌};
+ghost use Rattle.std.specs.Prelude.{◌≡◌, ℕ, ◌≤◌, true, false, Bool, IfOk, IfSome, nat_eq, length, [], ◌∷◌};
+ghost use Rattle.std.specs.Char.{IsScalar};
 ghost use Rattle.std.specs.List.{AllZip, common_prefix_len};
 ghost use Rattle.class_meaning.specs.CharacterSet.{has_character};
-ghost use Rattle.fancy_grammar.specs.Tree.{Tree, Trees, is_leaf, more_trees, over, row, trees_of};
+ghost use Rattle.fancy_grammar.specs.Tree.{Tree, Trees, is_leaf, literal, more_trees, over, row, trees_of};
 ghost use Rattle.fancy_syntax.specs.Shape.{label_of};
 ghost use Rattle.fancy_syntax.specs.View.{view, views};
 ghost use Rattle.pattern_facts.specs.Known.{IsRowOf};
 ghost use Rattle.pattern_facts.specs.Lengths.{row_of};
 ghost use Rattle.pattern_facts.specs.Nodes.{nodes_of};
+ghost use Rattle.pattern_facts.specs.declared.lengths.ListKind.{ListKind};
 ghost use Rattle.pattern_facts.specs.Prefix.{ArePrefixed, HasPrefix, IsPrefix, IsPrefixed};
-ghost use Rattle.pattern_facts.specs.Prefix.{IsOr, IsPrefixOfSet, IsRepeated, IsSettled, IsThen};
+ghost use Rattle.pattern_facts.specs.Prefix.{IsOr, IsPrefixOfSet, IsRepeated, IsSettled, IsThen, IsWhole};
 ghost use Rattle.pattern_matches.specs.Defined.{AreDefined, IsDefined};
 
 use crate::lengths::ListKind;
@@ -214,6 +216,44 @@ fn with_next(
     }
 }
 
+/// The character of the next tree of a list, if it is a literal of one that follows whole matches.
+fn next_character(kind: ListKind, before: &Option<Prefix>, tree: &Expr) -> Option<char>
+    ensures { IfSome result (λ c. IsScalar c × (view tree.now ≡ literal (c ∷ []) false) × IsWhole kind before.now) }
+{
+    let Some(before) = before else {
+        return None;
+    };
+    match kind {
+        ListKind::Concat => {
+            if before.is_whole {
+                plain_character(tree)
+            } else {
+                None
+            }
+        }
+        ListKind::Alt => None,
+    }
+}
+
+/// That of some pieces whose matches are this one, and then the character.
+fn with_character(before: Option<Prefix>, c: char) -> Result<Option<Prefix>, AllocError>
+    ensures { (unicode : Bool) (kind : ListKind) (all rest : Trees) (t : Tree) → IsScalar c →
+        t ≡ literal (c ∷ []) false → IsWhole kind before → IsPrefixed unicode kind all (more_trees t rest) before →
+        IfOk result (IsPrefixed unicode kind all rest) }
+{
+    match before {
+        Some(before) => {
+            let mut characters = before.characters;
+            characters.push(c)?;
+            Ok(Some(Prefix {
+                characters,
+                is_whole: true,
+            }))
+        }
+        None => Ok(None),
+    }
+}
+
 /// Whether it is that of a list of trees, whatever follows.
 fn is_settled(kind: ListKind, prefix: &Option<Prefix>) -> bool
     ensures { result ≡ true → IsSettled kind prefix.now }
@@ -247,8 +287,12 @@ fn prefix_of_list(
         if is_known && is_settled(kind, &all) {
             return Ok(all);
         }
-        let next = prefix_of(alloc, tree, unicode, is_known)?;
-        all = with_next(kind, all, next)?;
+        if let Some(c) = next_character(kind, &all, tree) {
+            all = with_character(all, c)?;
+        } else {
+            let next = prefix_of(alloc, tree, unicode, is_known)?;
+            all = with_next(kind, all, next)?;
+        }
     }
     Ok(all)
 }

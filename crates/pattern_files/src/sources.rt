@@ -1,6 +1,6 @@
 //! What a run asks the system for.
 use std::io;
-use std::io::BufRead;
+use std::io::{BufRead, Write};
 use std::time::Clock;
 use thiserror::Error;
 
@@ -42,6 +42,8 @@ pub trait Sources {
     type File: BufRead + Drop;
     /// The standard input.
     type Input: BufRead + Drop;
+    /// A file that is written to take the place of another. If it is dropped, it is removed.
+    type Draft: Write + Drop;
 
     /// Opens the file of this name.
     fn open(&self, name: &str) -> io::Result<Self::File>;
@@ -49,6 +51,17 @@ pub trait Sources {
     /// Writes the new bytes to the file of this name, in the place of the old ones, which were read from it. After an error it
     /// is as it was. It is an error if it does not have the old bytes any more.
     fn replace(&self, name: &str, old: &[u8], new: &[u8]) -> Result<(), ReplaceError>;
+
+    /// How many bytes the file of this name has, if that is known.
+    fn size(&self, name: &str) -> Option<u64>;
+
+    /// Begins a file that is to take the place of the one of this name. It is empty. It is an error if that one cannot be
+    /// replaced.
+    fn draft(&self, name: &str) -> Result<Self::Draft, ReplaceError>;
+
+    /// Puts the draft in the place of the file that it was begun for. After an error that file is as it was. It is an error if
+    /// its bytes do not have this SHA-256 digest.
+    fn settle(&self, draft: Self::Draft, digest: [u8; 32]) -> Result<(), ReplaceError>;
 
     /// The standard input, from its position on.
     fn input(&self) -> io::Result<Self::Input>;

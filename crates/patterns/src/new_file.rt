@@ -15,9 +15,9 @@ const MAX_MODE: u32 = 0o777;
 /// The permissions of a new file before it has an owner.
 const FIRST_MODE: u32 = 0o600;
 
-/// The new file, whose lock is held.
-#[derive(Drop)]
-pub(crate) struct NewFile {
+/// The new file, whose lock is held. If it is dropped, it is removed.
+pub(crate) struct NewFile<'a> {
+    rt: &'a HostRuntime,
     name: String,
     file: File,
 }
@@ -83,6 +83,15 @@ fn create(rt: &HostRuntime, name: &str) -> Result<File, ReplaceError> {
     create_new(rt, name)?.ok_or(ReplaceError::Busy)
 }
 
+/// Takes the lock of the file of this name; an error if another run took it for a file that was left, and removes it.
+fn hold(rt: &HostRuntime, file: &File, name: &str) -> Result<(), ReplaceError> {
+    lock(file)?;
+    if !is_named(rt, file, name)? {
+        return Err(ReplaceError::Busy);
+    }
+    Ok(())
+}
+
 /// Gives the file the owner and the group of the old one; an error if that is not allowed.
 fn keep_owner(file: &File, old: &Metadata) -> Result<(), ReplaceError> {
     let new = file.metadata()?;
@@ -96,49 +105,65 @@ fn keep_owner(file: &File, old: &Metadata) -> Result<(), ReplaceError> {
     }
 }
 
-impl NewFile {
+impl<'a> NewFile<'a> {
     /// Creates the new file for the one at the path, empty and for this user only, and takes its lock.
-    pub(crate) fn create(rt: &HostRuntime, path: &str) -> Result<NewFile, ReplaceError> {
+    pub(crate) fn create(rt: &'a HostRuntime, path: &str) -> Result<NewFile<'a>, ReplaceError> {
         let name = new_name(rt, path)?;
         let file = create(rt, name.as_str())?;
-        let new = NewFile { name, file };
-        match new.hold(rt) {
-            Ok(()) => Ok(new),
+        let held = hold(rt, &file, name.as_str());
+        if let Err(ReplaceError::Busy) = held {
             // The name is that of the other run's file.
-            Err(ReplaceError::Busy) => Err(ReplaceError::Busy),
-            Err(error) => {
-                let _ = new.remove(rt);
-                Err(error)
-            }
-        }
-    }
-
-    /// Takes its lock; an error if another run took it for a file that was left, and removes it.
-    fn hold(&self, rt: &HostRuntime) -> Result<(), ReplaceError> {
-        lock(&self.file)?;
-        if !is_named(rt, &self.file, self.name.as_str())? {
             return Err(ReplaceError::Busy);
         }
-        Ok(())
+        let new = NewFile { rt, name, file };
+        held?;
+        Ok(new)
     }
 
-    /// Gives it the owner, the group and the permissions of the old file, and these bytes, and sees that they are on the disk.
-    pub(crate) fn fill(&self, old: &Metadata, bytes: &[u8]) -> Result<(), ReplaceError> {
+    /// Gives it the owner, the group and the permissions of the old file.
+    pub(crate) fn prepare(&self, old: &Metadata) -> Result<(), ReplaceError> {
         // The owner comes first: permissions are for the owner and the group that the file then has.
         keep_owner(&self.file, old)?;
         self.file
             .set_permissions(Permissions::from_mode(old.mode() & MAX_MODE))?;
-        (&self.file).write_all(bytes)?;
-        Ok(self.file.sync_all()?)
+        Ok(())
+    }
+
+    /// Sees that its bytes are on the disk.
+    pub(crate) fn sync(&self) -> io::Result<()> {
+        self.file.sync_all()
     }
 
     /// Gives it the name of the old file.
-    pub(crate) fn rename(&self, rt: &HostRuntime, path: &str) -> io::Result<()> {
-        fs::rename(rt, self.name.as_str(), path)
+    pub(crate) fn rename(self, path: &str) -> io::Result<()> {
+        fs::rename(self.rt, self.name.as_str(), path)?;
+        // It is not dropped: its first name may be that of another run's file by now.
+        let NewFile {
+            rt: _,
+            name: _,
+            file: _,
+        } = self;
+        Ok(())
+    }
+}
+
+impl Write for NewFile<'_> {
+    fn write(&mut self, bytes: &[u8]) -> io::Result<usize> {
+        (&self.file).write(bytes)
     }
 
-    /// Removes it.
-    pub(crate) fn remove(&self, rt: &HostRuntime) -> io::Result<()> {
-        fs::remove_file(rt, self.name.as_str())
+    fn flush(&mut self) -> io::Result<()> {
+        (&self.file).flush()
+    }
+}
+
+impl Drop for NewFile<'_> {
+    fn drop(self) {
+        let _ = fs::remove_file(self.rt, self.name.as_str());
+        let NewFile {
+            rt: _,
+            name: _,
+            file: _,
+        } = self;
     }
 }

@@ -5,7 +5,7 @@ use crate::chosen::{
     canvas_of, choices_of, files_of, job_of, look_of, pattern_of, report_format_of, width_of,
 };
 use crate::command::command;
-use crate::rules::levels_chosen;
+use crate::rules::{explain_rules, levels_chosen};
 use crate::subcommands::{PatternVerb, Verb};
 use clap::error::ErrorKind;
 use clap::{ArgMatches, Error};
@@ -71,6 +71,8 @@ enum Request<'m> {
     Pattern(PatternVerb, Choices<'m>),
     /// An editor is served.
     Server(Choices<'m>),
+    /// The rules of these names are explained.
+    Rules(&'m [&'m str]),
 }
 
 /// That the arguments are wrong.
@@ -120,6 +122,9 @@ fn request_of<'m>(
     };
     if matches.get_flag("rules") {
         return Err(NoRun::Rules);
+    }
+    if let Some(names) = matches.get_strs("explain") {
+        return Ok(Request::Rules(names));
     }
     let choices = choices_of(matches, flags, levels);
     match verb {
@@ -263,6 +268,11 @@ fn execute_words<S: System, O: Write, E: Write>(
             draw_chosen(alloc, verb, choices, chosen, sources, out, err)
         }
         Ok(Request::Server(choices)) => serve_input(alloc, choices, sources, out, err),
+        Ok(Request::Rules(names)) => {
+            explain_rules(names, out)?;
+            out.flush()?;
+            Ok(0)
+        }
         Err(reason) => explain(reason, out, err),
     }
 }

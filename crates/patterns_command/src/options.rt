@@ -223,7 +223,7 @@ box that is wider by itself stays so",
     },
 ];
 
-pub(crate) static LINT_OPTIONS: [OptionRow; 11] = [
+pub(crate) static LINT_OPTIONS: [OptionRow; 12] = [
     OptionRow {
         id: "allow",
         takes: Takes::Rules,
@@ -282,7 +282,13 @@ would be left",
     },
     OptionRow {
         id: "rules",
-        help: "Explains the rules, with an example of each, and reads no file",
+        help: "Lists the rules, with an example of each, and reads no file",
+        ..FLAG
+    },
+    OptionRow {
+        id: "explain",
+        takes: Takes::Rules,
+        help: "Explains rules, with patterns of programs, and reads no file",
         ..FLAG
     },
 ];

@@ -1,8 +1,11 @@
-//! The levels of rules that the arguments choose.
+//! The rules that the arguments name.
 use clap::ArgMatches;
 use lint_rules::chosen::Level;
+use lint_rules::rule::{RULES, Rule};
 use patterns_config::choices::{LEVELS, RuleLevel};
+use patterns_text::error::RunError;
 use std::alloc::{AllocError, Global};
+use std::io::Write;
 
 /// A level that the arguments give to a rule, or to all.
 #[derive(Clone, Copy)]
@@ -46,4 +49,23 @@ pub(crate) fn levels_chosen<'a>(
         levels.push(choice.level)?;
     }
     Ok(levels)
+}
+
+/// Explains each rule.
+fn explain_all<O: Write>(out: &mut O) -> Result<(), RunError> {
+    for row in RULES.iter() {
+        row.explain(out)?;
+    }
+    Ok(())
+}
+
+/// Explains the rules of these names, of which `all` is each rule.
+pub(crate) fn explain_rules<O: Write>(names: &[&str], out: &mut O) -> Result<(), RunError> {
+    for name in names {
+        match Rule::named(name) {
+            Some(rule) => rule.row().explain(out)?,
+            None => explain_all(out)?,
+        }
+    }
+    Ok(())
 }

@@ -24,7 +24,7 @@ impl fmt::Display for LengthWords {
 
 /// What is known of a node's matches: their lengths in characters, those in bytes where they differ, and where they are.
 #[derive(Clone, Copy)]
-pub(crate) struct FactWords(pub(crate) Option<Facts>);
+pub struct FactWords(pub Option<Facts>);
 
 impl fmt::Display for FactWords {
     fn fmt<W: fmt::Write>(&self, f: &mut fmt::Formatter<W>) -> fmt::Result {
@@ -67,6 +67,11 @@ impl FactRows {
             Vec::new(subject.alloc)
         };
         Ok(FactRows { rows, taken: 0 })
+    }
+
+    /// That of the node of this index.
+    pub fn row(&self, index: usize) -> Option<Facts> {
+        self.rows.get(index).copied().flatten()
     }
 
     /// Takes that of the next node.

@@ -6,6 +6,7 @@ pub mod canonical;
 mod change;
 mod changes;
 mod check;
+mod draft;
 pub mod draw;
 pub mod edited;
 mod groups;

@@ -7,6 +7,7 @@ ghost use Rattle.patterns_program.specs.declared.job.Command.{Command};
 ghost use Rattle.patterns_program.specs.declared.outcome.Outcome.{Outcome};
 
 use crate::changes::{Kept, Left};
+use crate::draft::LineDraft;
 use crate::job::{Command, Job, Output};
 use crate::outcome::Outcome;
 use crate::progress::{STEP, Screen};
@@ -15,9 +16,9 @@ use crate::tally::Counted;
 use crate::work::Work;
 use pattern_files::entry::{Entry, Unread, Visitor};
 use pattern_files::form::{FileFormat, NamedFormat};
-use pattern_files::lines::{Ending, lines_in};
+use pattern_files::lines::{BOM, Ending, lines_in};
 use pattern_files::patch::{PatchText, patch_of};
-use pattern_files::sources::{ReplaceError, STANDARD_INPUT, System};
+use pattern_files::sources::{ReplaceError, STANDARD_INPUT, Sources, System};
 use pattern_files::values::keys::{Keys, UsedKeys};
 use pattern_files::walk::{FileShape, visit};
 use patterns_config::choices::Choices;
@@ -38,9 +39,12 @@ use std::io::{BufRead, ErrorKind, Write};
 /// Why `format` does not read a file that a configuration says is JSON, if it is to write patterns to standard output.
 const NO_VALUES: &str = "patterns.toml says that it is JSON, which format writes only with --write";
 
+/// How many bytes a file of lines has at least that is written while it is read.
+const LARGE: u64 = 1 << 20;
+
 /// A run over files.
 #[derive(Drop)]
-pub(crate) struct FileRun<'a, 'p, S, O, E> {
+pub(crate) struct FileRun<'a, 'p, S: Sources, O, E> {
     plan: &'p Plan,
     pub(crate) sources: &'a S,
     pub(crate) screen: Screen<'a, S, O, E>,
@@ -52,11 +56,13 @@ pub(crate) struct FileRun<'a, 'p, S, O, E> {
     /// Under which keys of the arguments there are patterns.
     used_keys: UsedKeys<'a>,
     /// What the patterns of the file are so far.
-    outcome: Outcome,
+    pub(crate) outcome: Outcome,
     /// Whether what is to be written is held back until the changes of the file are made.
-    is_held: bool,
-    /// How many bytes the file has that is read, if it is read whole.
-    size: Option<usize>,
+    pub(crate) is_held: bool,
+    /// How many bytes the file has that is read, if that is known.
+    pub(crate) size: Option<usize>,
+    /// What is to take the place of the file that is read.
+    pub(crate) draft: Option<LineDraft<S::Draft>>,
 }
 
 impl<S: System, O: Write, E: Write> Visitor for FileRun<'_, '_, S, O, E> {
@@ -69,6 +75,7 @@ impl<S: System, O: Write, E: Write> Visitor for FileRun<'_, '_, S, O, E> {
     {
         self.used_keys.add(entry.key)?;
         let found = self.work.process(entry)?;
+        self.add_to_draft(entry);
         self.outcome = self.outcome.and(found);
         self.put_unless_held()?;
         self.work.tally.add(found);
@@ -80,6 +87,7 @@ impl<S: System, O: Write, E: Write> Visitor for FileRun<'_, '_, S, O, E> {
 
     fn unread(&mut self, unread: Unread<'_>) -> Result<(), RunError> {
         self.outcome = Outcome::Unread;
+        self.add_unread(unread.line);
         writeln!(self.work.reported.err, "{unread}")?;
         if let (Output::Patterns, Some(line)) = (self.work.job.output, unread.line) {
             self.work.end_last(line.end)?;
@@ -91,6 +99,9 @@ impl<S: System, O: Write, E: Write> Visitor for FileRun<'_, '_, S, O, E> {
     }
 
     fn bom(&mut self) -> Result<(), RunError> {
+        if let Some(draft) = &mut self.draft {
+            draft.keep(BOM, b"");
+        }
         self.work.write_bom()?;
         Ok(())
     }
@@ -98,7 +109,7 @@ impl<S: System, O: Write, E: Write> Visitor for FileRun<'_, '_, S, O, E> {
 
 impl<'a, S: System, O: Write, E: Write> FileRun<'a, '_, S, O, E> {
     /// Writes what the work has written so far.
-    fn put(&mut self) -> Result<(), RunError>
+    pub(crate) fn put(&mut self) -> Result<(), RunError>
         ensures job { self.new.work.job ≡ self.old.work.job }
         ensures flags { self.new.work.flags ≡ self.old.work.flags }
         ensures outcome { self.new.outcome ≡ self.old.outcome }
@@ -133,7 +144,11 @@ impl<'a, S: System, O: Write, E: Write> FileRun<'a, '_, S, O, E> {
     }
 
     /// Does the work on each pattern of a reader, in one pass, and returns the outcome.
-    fn pass<R: BufRead>(&mut self, file: &str, reader: &mut R) -> Result<Outcome, RunError> {
+    pub(crate) fn pass<R: BufRead>(
+        &mut self,
+        file: &str,
+        reader: &mut R,
+    ) -> Result<Outcome, RunError> {
         let form = match self.configured {
             Some(keys) => FileFormat::Values(keys),
             None => self.work.job.choices.form,
@@ -157,7 +172,17 @@ impl<'a, S: System, O: Write, E: Write> FileRun<'a, '_, S, O, E> {
     /// Writes the new bytes to the file, from which the old ones were read, and returns whether that can be done; if not, it is
     /// reported.
     pub(crate) fn replace(&mut self, file: &str, old: &[u8], new: &[u8]) -> Result<bool, RunError> {
-        let Err(error) = self.sources.replace(file, old, new) else {
+        let replaced = self.sources.replace(file, old, new);
+        self.see_replaced(file, replaced)
+    }
+
+    /// Returns whether a file was replaced; if not, it is reported.
+    pub(crate) fn see_replaced(
+        &mut self,
+        file: &str,
+        replaced: Result<(), ReplaceError>,
+    ) -> Result<bool, RunError> {
+        let Err(error) = replaced else {
             return Ok(true);
         };
         if let ReplaceError::System(error) = &error
@@ -284,6 +309,31 @@ impl<'a, S: System, O: Write, E: Write> FileRun<'a, '_, S, O, E> {
         Ok(outcome)
     }
 
+    /// Whether a file has lines that are written to it.
+    fn writes_lines_to(&self, file: &str) -> bool {
+        let has_lines = self.configured.is_none()
+            && matches!(self.work.job.choices.form, FileFormat::Records(_));
+        has_lines && self.work.job.writes_files() && file != STANDARD_INPUT
+    }
+
+    /// Does the work on each pattern of a reader, and makes the changes: of a large file of lines while it is read, and of another
+    /// when it is read.
+    fn process_and_change<R: BufRead>(
+        &mut self,
+        file: &str,
+        reader: &mut R,
+    ) -> Result<Outcome, RunError> {
+        if self.writes_lines_to(file)
+            && let Some(size) = self.sources.size(file)
+            && size >= LARGE
+            // If it cannot be replaced, that is reported only if a pattern changes.
+            && let Ok(draft) = self.sources.draft(file)
+        {
+            return self.process_with_draft(file, size, draft, reader);
+        }
+        self.process_whole(file, reader)
+    }
+
     /// Does the work on each pattern of a reader.
     fn process_opened<R: BufRead>(
         &mut self,
@@ -291,7 +341,7 @@ impl<'a, S: System, O: Write, E: Write> FileRun<'a, '_, S, O, E> {
         reader: &mut R,
     ) -> Result<Outcome, RunError> {
         match self.work.job.output {
-            Output::Diff | Output::Files { .. } => self.process_whole(file, reader),
+            Output::Diff | Output::Files { .. } => self.process_and_change(file, reader),
             Output::Reports | Output::Patterns | Output::Check => self.pass(file, reader),
         }
     }
@@ -500,6 +550,7 @@ fn run_plan<S: System, O: Write, E: Write>(
         outcome: Outcome::Good,
         is_held: false,
         size: None,
+        draft: None,
     };
     match run.process_files() {
         Ok(outcome) => outcome.status(),

@@ -62,6 +62,10 @@ impl Visitor for OutlineWalk<'_> {
     fn pattern(&mut self, entry: Entry<'_>) -> Result<(), RunError> {
         let alloc = self.alloc;
         let located = self.locator.locate(entry);
+        // The name of a symbol may not be blank.
+        if entry.pattern.trim().is_empty() {
+            return Ok(());
+        }
         let subject = self.patterns.subject(entry);
         let Ok(parsed) = subject.parse()? else {
             return Ok(());
@@ -90,7 +94,7 @@ impl Visitor for OutlineWalk<'_> {
     }
 }
 
-/// Writes a symbol for each valid pattern of a document, with its groups.
+/// Writes a symbol for each valid pattern of a document that is not blank, with its groups.
 pub(crate) fn write_symbols(
     given: Settings<'_>,
     document: &OpenDocument,

@@ -13,6 +13,7 @@ use pattern_documents::ranges::{Located, Locator, write_range};
 use pattern_files::entry::{Entry, Visitor};
 use pattern_reports::json_lines::fields::{write_number, write_text};
 use patterns_listing::class_words::ClassWords;
+use patterns_listing::fact_words::{FactRows, FactWords};
 use patterns_program::edited::EditedPatterns;
 use patterns_text::columns::ColumnTable;
 use patterns_text::error::RunError;
@@ -110,17 +111,27 @@ impl<'t> ReadPattern<'_, '_, 't> {
         Ok(spans)
     }
 
-    /// The smallest node at the byte offset, and those around it, the largest one first.
-    fn path(self, alloc: Global, offset: usize) -> Result<Vec<SpannedNode<'t>>, AllocError> {
+    /// The smallest node at the byte offset, and those around it, the largest one first, each with its index.
+    fn path(
+        self,
+        alloc: Global,
+        offset: usize,
+    ) -> Result<Vec<(usize, SpannedNode<'t>)>, AllocError> {
         let mut path = Vec::new(alloc);
-        for node in self.nodes {
+        for (index, node) in self.nodes.iter().enumerate() {
             let Span { start, end } = node.span();
             let is_last = end == self.subject.pattern.len() && offset == end;
             if start <= offset && (offset < end || is_last) {
-                path.push(*node)?;
+                path.push((index, *node))?;
             }
         }
         Ok(path)
+    }
+
+    /// What is known of the matches of the node of this index.
+    fn facts(self, index: usize) -> Result<FactWords, AllocError> {
+        let rows = FactRows::of(self.subject, true, self.parsed)?;
+        Ok(FactWords(rows.row(index)))
     }
 }
 
@@ -145,9 +156,10 @@ fn describe(
     Ok(())
 }
 
-/// Writes what is at a node, in words.
+/// Writes what is at the node of this index, in words, and how long its matches are, if that is known.
 fn write_hover(
     pattern: ReadPattern<'_, '_, '_>,
+    index: usize,
     node: SpannedNode<'_>,
     writer: &mut Writer,
 ) -> Result<(), RunError> {
@@ -159,6 +171,10 @@ fn write_hover(
             write!(words, "{}", names.group(number))?;
         }
         _ => describe(pattern, node, &names, &mut words)?,
+    }
+    let facts = pattern.facts(index)?;
+    if facts.0.is_some() {
+        write!(words, "\nmatches: {facts}")?;
     }
     writer.begin_object()?;
     writer.key("contents")?;
@@ -247,11 +263,11 @@ fn write_highlights(
 /// Writes the parts around a position, the smallest one outermost, with those around it as its parents.
 fn write_selection(
     pattern: ReadPattern<'_, '_, '_>,
-    path: &[SpannedNode<'_>],
+    path: &[(usize, SpannedNode<'_>)],
     writer: &mut Writer,
 ) -> Result<(), AllocError> {
     writer.begin_object()?;
-    for (count, node) in path.iter().rev().enumerate() {
+    for (count, (_, node)) in path.iter().rev().enumerate() {
         if count > 0 {
             writer.key("parent")?;
             writer.begin_object()?;
@@ -285,12 +301,12 @@ impl QueryWalk<'_, '_> {
     /// Answers it about the pattern, whose part at the byte offset is asked about.
     fn answer(&mut self, pattern: ReadPattern<'_, '_, '_>, offset: usize) -> Result<(), RunError> {
         let path = pattern.path(self.alloc, offset)?;
-        let Some(node) = path.last().copied() else {
+        let Some((index, node)) = path.last().copied() else {
             return Ok(());
         };
         let (query, uri, writer) = (self.query, self.uri, &mut *self.writer);
         match query {
-            Query::Hover => write_hover(pattern, node, writer)?,
+            Query::Hover => write_hover(pattern, index, node, writer)?,
             Query::Definition => write_definition(pattern, uri, node, writer)?,
             Query::References { has_group } => {
                 write_references(pattern, uri, node, has_group, writer)?;

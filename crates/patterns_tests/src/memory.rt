@@ -32,15 +32,51 @@ impl BufRead for End {
 }
 
 /// The names of files, and what they hold.
-static FILES: [(&str, &[u8]); 5] = [
+static FILES: [(&str, &[u8]); 9] = [
     ("mixed", b"a|b\r\n(\n\n\xFFx\na)b\n"),
     ("mixed:5", b"x\n[\n"),
     ("broken", b"(\r\n"),
     ("full", b"a|a\n"),
     ("moving", b"a|a\n"),
+    ("large", LARGE_FILE),
+    ("large-broken", b"(\r\na{1,1}\n"),
+    ("large-full", b"a{1,1}\n(?:b)\n"),
+    ("large-moving", b"a{1,1}\n"),
 ];
 
-/// The files above, of which `broken` cannot be read to its end, and none can be written, and a standard input.
+/// How the names of files begin that are said to be large.
+const LARGE: &str = "large";
+
+/// What the file `large` holds, and what it is to hold when it is formatted.
+const LARGE_FILE: &[u8] = b"\xEF\xBB\xBFa{1,1}\r\n\xFF{1,1}\n(\n\n(?:b)";
+
+const LARGE_FORMATTED: &[u8] = b"\xEF\xBB\xBFa{1}\r\n\xFF{1,1}\n(\n\nb";
+
+/// Its SHA-256 digest, as `sha256sum` writes it.
+const LARGE_DIGEST: [u8; 32] = [
+    0x37, 0x25, 0xe1, 0x0d, 0xac, 0x60, 0xf1, 0xce, 0x09, 0xb1, 0xdf, 0xc3, 0xf4, 0xa5, 0xbf, 0x80,
+    0xe6, 0x7d, 0x7b, 0xbe, 0x1b, 0x1e, 0xe4, 0xfd, 0x84, 0x59, 0x38, 0x0f, 0x23, 0x30, 0x6d, 0x5d,
+];
+
+/// A file that is to take the place of the one of this name.
+#[derive(Drop)]
+pub(crate) struct MemoryDraft {
+    name: &'static str,
+    written: Limited,
+}
+
+impl Write for MemoryDraft {
+    fn write(&mut self, bytes: &[u8]) -> io::Result<usize> {
+        self.written.write(bytes)
+    }
+
+    fn flush(&mut self) -> io::Result<()> {
+        self.written.flush()
+    }
+}
+
+/// The files above, of which `broken` and `large-broken` cannot be read to their ends, and only `large` can be written, and a
+/// standard input.
 #[derive(Clone, Copy)]
 pub(crate) struct Memory<'a> {
     pub(crate) alloc: Global,
@@ -52,11 +88,13 @@ impl<'a> Sources for Memory<'a> {
 
     type Input = &'a [u8];
 
+    type Draft = MemoryDraft;
+
     fn open(&self, name: &str) -> io::Result<Chain<&'static [u8], End>> {
         for (known, bytes) in FILES.iter() {
             if *known == name {
                 let end = End {
-                    is_broken: name == "broken",
+                    is_broken: name.ends_with("broken"),
                 };
                 return Ok(bytes.chain(end));
             }
@@ -73,6 +111,33 @@ impl<'a> Sources for Memory<'a> {
             return Err(ReplaceError::Changed);
         }
         Err(ReplaceError::from(io::Error::from(ErrorKind::StorageFull)))
+    }
+
+    fn size(&self, name: &str) -> Option<u64> {
+        name.starts_with(LARGE).then_some(u64::MAX)
+    }
+
+    /// To the new file for `large-full` no byte can be written.
+    fn draft(&self, name: &str) -> Result<MemoryDraft, ReplaceError> {
+        let capacity = if name == "large-full" { 0 } else { usize::MAX };
+        for (known, _) in FILES.iter() {
+            if *known == name {
+                return Ok(MemoryDraft {
+                    name: *known,
+                    written: Limited::new(self.alloc, capacity),
+                });
+            }
+        }
+        Err(ReplaceError::NotRegular)
+    }
+
+    /// The file `large-moving` has other bytes by now.
+    fn settle(&self, draft: MemoryDraft, digest: [u8; 32]) -> Result<(), ReplaceError> {
+        let is_same = draft.name == LARGE && digest == LARGE_DIGEST;
+        if !is_same || draft.written.text.as_slice() != LARGE_FORMATTED {
+            return Err(ReplaceError::Changed);
+        }
+        Ok(())
     }
 
     fn input(&self) -> io::Result<&'a [u8]> {

@@ -184,6 +184,59 @@ fn files_that_cannot_be_read_or_written(rt: HostRuntime) -> Result<(), Fail> {
     Ok(())
 }
 
+const NOTHING_READ: &str = "patterns: large-broken: connection reset
+0 patterns, 0 refused
+";
+
+const LEFT_IN_LARGE_FULL: &str = "large-full:1:4: would change
+-a{1,1}
++a{1}
+large-full:2:1: would change
+-(?:b)
++b
+";
+
+const NO_SPACE_FOR_LARGE: &str = "patterns: large-full: cannot be written: no storage space
+2 patterns, 0 refused, 2 would change
+";
+
+const LEFT_IN_LARGE_MOVING: &str = "large-moving:1:4: would change
+-a{1,1}
++a{1}
+";
+
+const LARGE_HAS_CHANGED: &str =
+    "patterns: large-moving: cannot be written: it has changed since it was read
+1 pattern, 0 refused, 1 would change
+";
+
+const LARGE_WRITTEN: &str = "large: 2 patterns formatted
+large:2: the line is not valid UTF-8
+large:3:2: Opening parenthesis without closing parenthesis
+(
+-^
+opened here
+4 patterns, 1 refused, 2 formatted
+";
+
+/// Files that are said to be large, and what is written to the two outputs if they are formatted: one that cannot be read to its
+/// end, two that cannot be written, and one that is written.
+static LARGE: [(&str, &str, &str); 4] = [
+    ("large-broken", "", NOTHING_READ),
+    ("large-full", LEFT_IN_LARGE_FULL, NO_SPACE_FOR_LARGE),
+    ("large-moving", LEFT_IN_LARGE_MOVING, LARGE_HAS_CHANGED),
+    ("large", "", LARGE_WRITTEN),
+];
+
+#[test]
+fn large_files(rt: HostRuntime) -> Result<(), Fail> {
+    for (file, out, err) in LARGE.iter() {
+        let words = ["patterns", "format", "--write", file];
+        assert!(rt; is_unusable(rt.alloc(), &words, out, err)?, "{file}");
+    }
+    Ok(())
+}
+
 /// Positions in files, one of which has a name with a colon, and how the report of the error begins: that of the
 /// longest name that there is.
 static POSITIONS: [(&str, &str); 7] = [

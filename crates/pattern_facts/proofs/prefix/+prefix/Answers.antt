@@ -8,6 +8,7 @@ use Rattle.pattern_facts.specs.Prefix.{HasPrefix, IsPrefix, IsPrefixed}
 use Rattle.pattern_facts.specs.Lengths.{row_of}
 use Rattle.pattern_facts.proofs.ListLemmas.{no_trees_in}
 use Rattle.pattern_facts.proofs.PrefixLemmas.{no_trees_prefix, prefixed_all, prefixed_first, settled}
+use Rattle.pattern_facts.proofs.prefix.+prefix.Goals.{prefix_of_list-in-Some-next_character+in_ok-all-2, prefix_of_list-in_default-next_character+in_ok-next+in_ok-all-3}
 use Rattle.pattern_facts.proofs.prefix.+prefix.Goals as goal
 
 pub prefix_of-returns-in_ok-below-in-Around : goal.prefix_of-returns-in_ok-below-in-Around
@@ -34,8 +35,8 @@ prefix_of_list-prefix_of-requires t c =
       λ known. (subst (λ xs. AreDefined c.args.unicode (trees_of (views xs))) is (c.requires known)).0,
     )
 
-pub prefix_of_list-prefix_of-requires-in-loop-tree : goal.prefix_of_list-prefix_of-requires-in-loop-tree
-prefix_of_list-prefix_of-requires-in-loop-tree t c =
+pub prefix_of_list-prefix_of-requires-in_default-next_character : goal.prefix_of_list-prefix_of-requires-in_default-next_character
+prefix_of_list-prefix_of-requires-in_default-next_character t c =
     let is = (rw c.in-Some.is at c.split_first.ensures.cases).0 in
     let same = ap (λ xs. levels_all (trees_of (views xs))) is in
     let low : levels (view c.tree-item.result) ≤ levels_all (trees_of (views c.in-Some.more.now)) =
@@ -52,10 +53,18 @@ prefix_of_list-loop-tree-preserved t c =
     let one = c.tree-item.result in
     let all = trees_of (views c.args.trees.now) in
     let step = left_step more i one c.loop-tree-test.true c.tree-item.is in
+    let before = subst (λ ts. IsPrefixed c.args.unicode c.args.kind all ts c.loop-tree.all) step c.loop-tree.invariant.prefixed in
     record {
-      prefixed = c.in_ok-all-2.ensures c.args.unicode all (left more (i + 1)) (view one)
-          (subst (λ ts. IsPrefixed c.args.unicode c.args.kind all ts c.loop-tree.all) step c.loop-tree.invariant.prefixed)
-          c.in_ok-next.ensures;
+      prefixed = elim c.match-next_character.branch [
+        | prefix_of_list-in-Some-next_character+in_ok-all-2 w ↦
+            let plain = rw w.in-Some-next_character.is at c.next_character.ensures in
+            subst (IsPrefixed c.args.unicode c.args.kind all (left more (i + 1))) (sym w.all-is)
+            (w.in_ok-all-2.ensures c.args.unicode c.args.kind all (left more (i + 1)) (view one) plain.0 plain.1 plain.2
+            before)
+        | prefix_of_list-in_default-next_character+in_ok-next+in_ok-all-3 w ↦
+            subst (IsPrefixed c.args.unicode c.args.kind all (left more (i + 1))) (sym w.all-is)
+            (w.in_ok-all-3.ensures c.args.unicode all (left more (i + 1)) (view one) before w.in_ok-next.ensures)
+      ];
       defined = λ known. (subst (AreDefined c.args.unicode) step (c.loop-tree.invariant.defined known)).1;
     }
 
