@@ -21,8 +21,9 @@ from tables import LONG
 NEW = "file.patterns.tmp"
 NOBODY = 65534
 NOT_REGULAR = "it is not a regular file"
-# What follows the first line of a file that is written while it is read.
-REST = b"\n" + b"(?#" + b"c" * LONG + b")\n"
+# What follows the first line of a file that is written while it is read, and what is said of it.
+REST = b"\n\xFF" + b"c" * LONG + b"\n"
+UNREAD = "file:2: the line is not valid UTF-8\n"
 FIXING_FILE = ("lint", "--fix", "--quiet", "--allow", "all", "--warn", "duplicate-branch", "file")
 
 
@@ -129,6 +130,7 @@ def replacements() -> Iterator[Check]:
         error = f"patterns: file: cannot be written: {reason}\n" if reason else ""
         wanted = all_of(2 if reason else 0, state, error)
         yield Check(f"a replaced file {number}", partial(replaced, prepare, user, b""), wanted)
+        wanted = all_of(2, state, error + UNREAD)
         yield Check(f"a large replaced file {number}", partial(replaced, prepare, user, REST), wanted)
 
 
@@ -209,6 +211,7 @@ def pipes() -> Iterator[Check]:
     wanted = all_of(2, "True ['file']\n", f"{said}it has changed since it was read\n")
     grammar = b'{"match": "a|a", "other": "' + b"b" * LONG + b'"}\n'
     yield Check("a file that changes while it is read", partial(changed_while_read, grammar, ("--keys", "match")), wanted)
+    wanted = all_of(2, "True ['file']\n", f"{said}it has changed since it was read\n{UNREAD}")
     yield Check("a large file that changes while it is read", partial(changed_while_read, b"a|a" + REST, ()), wanted)
 
 
