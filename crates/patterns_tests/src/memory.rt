@@ -66,7 +66,11 @@ pub(crate) struct MemoryDraft {
 }
 
 impl Write for MemoryDraft {
+    /// To the new file for `large-full` no byte can be written.
     fn write(&mut self, bytes: &[u8]) -> io::Result<usize> {
+        if self.name == "large-full" {
+            return Err(io::Error::from(ErrorKind::StorageFull));
+        }
         self.written.write(bytes)
     }
 
@@ -117,14 +121,12 @@ impl<'a> Sources for Memory<'a> {
         name.starts_with(LARGE).then_some(u64::MAX)
     }
 
-    /// To the new file for `large-full` no byte can be written.
     fn draft(&self, name: &str) -> Result<MemoryDraft, ReplaceError> {
-        let capacity = if name == "large-full" { 0 } else { usize::MAX };
         for (known, _) in FILES.iter() {
             if *known == name {
                 return Ok(MemoryDraft {
                     name: *known,
-                    written: Limited::new(self.alloc, capacity),
+                    written: Limited::new(self.alloc, usize::MAX),
                 });
             }
         }
