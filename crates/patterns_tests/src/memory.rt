@@ -58,24 +58,23 @@ const LARGE_DIGEST: [u8; 32] = [
     0xe6, 0x7d, 0x7b, 0xbe, 0x1b, 0x1e, 0xe4, 0xfd, 0x84, 0x59, 0x38, 0x0f, 0x23, 0x30, 0x6d, 0x5d,
 ];
 
-/// A file that is to take the place of the one of this name.
+/// A file that is to take the place of the one of this name. For that of `large-full` there is no space.
 #[derive(Drop)]
 pub(crate) struct MemoryDraft {
     name: &'static str,
-    written: Limited,
+    bytes: Vec<u8>,
 }
 
 impl Write for MemoryDraft {
-    /// To the new file for `large-full` no byte can be written.
     fn write(&mut self, bytes: &[u8]) -> io::Result<usize> {
         if self.name == "large-full" {
             return Err(io::Error::from(ErrorKind::StorageFull));
         }
-        self.written.write(bytes)
+        self.bytes.write(bytes)
     }
 
     fn flush(&mut self) -> io::Result<()> {
-        self.written.flush()
+        Ok(())
     }
 }
 
@@ -126,7 +125,7 @@ impl<'a> Sources for Memory<'a> {
             if *known == name {
                 return Ok(MemoryDraft {
                     name: *known,
-                    written: Limited::new(self.alloc, usize::MAX),
+                    bytes: Vec::new(self.alloc),
                 });
             }
         }
@@ -136,7 +135,7 @@ impl<'a> Sources for Memory<'a> {
     /// The file `large-moving` has other bytes by now.
     fn settle(&self, draft: MemoryDraft, digest: [u8; 32]) -> Result<(), ReplaceError> {
         let is_same = draft.name == LARGE && digest == LARGE_DIGEST;
-        if !is_same || draft.written.text.as_slice() != LARGE_FORMATTED {
+        if !is_same || draft.bytes.as_slice() != LARGE_FORMATTED {
             return Err(ReplaceError::Changed);
         }
         Ok(())
