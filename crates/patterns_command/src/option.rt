@@ -17,7 +17,7 @@ pub(crate) enum Takes {
     /// Values with commas between, and the option can be given several times.
     List(&'static str),
     /// The same, names of rules.
-    Rules,
+    Rules(&'static str),
     /// It is no option: the arguments that are files.
     Files,
     /// It is no option: the argument that is the pattern.
@@ -74,8 +74,8 @@ impl Takes {
                 .value_name(value)
                 .value_delimiter(',')
                 .action(ArgAction::Append),
-            Takes::Rules => arg
-                .value_name("RULE[,RULE..]")
+            Takes::Rules(value) => arg
+                .value_name(value)
                 .value_parser(rules)
                 .hide_possible_values(true)
                 .value_delimiter(',')

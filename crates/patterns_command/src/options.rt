@@ -226,19 +226,19 @@ box that is wider by itself stays so",
 pub(crate) static LINT_OPTIONS: [OptionRow; 12] = [
     OptionRow {
         id: "allow",
-        takes: Takes::Rules,
+        takes: Takes::Rules("RULE[,RULE..]"),
         help: "Silences rules",
         ..FLAG
     },
     OptionRow {
         id: "warn",
-        takes: Takes::Rules,
+        takes: Takes::Rules("RULE[,RULE..]"),
         help: "Makes the reports of rules warnings",
         ..FLAG
     },
     OptionRow {
         id: "deny",
-        takes: Takes::Rules,
+        takes: Takes::Rules("RULE[,RULE..]"),
         help: "Makes the reports of rules errors",
         ..FLAG
     },
@@ -287,7 +287,7 @@ would be left",
     },
     OptionRow {
         id: "explain",
-        takes: Takes::Rules,
+        takes: Takes::Rules("RULE"),
         help: "Explains rules, with patterns of programs, and reads no file",
         ..FLAG
     },
