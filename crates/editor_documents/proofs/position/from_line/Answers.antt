@@ -17,5 +17,3 @@ loop-above-preserved c = record {
       ∙ ap (option_and_then (spec.from_line (c.loop-above.above - 1))) c.in_ok-rest.ensures;
 }
 
-pub returns : goal.returns
-returns c = c.loop-above.invariant.same ∙ first_line _ _ c.loop-above-test.false
