@@ -10,7 +10,7 @@ use Rattle.editor_documents.specs.Position.{Text, units, ends_line, after_line_f
 use Rattle.editor_documents.specs.declared.position.Encoding.{Encoding}
 use Rattle.editor_documents.specs.declared.position.Encoding.TheVariants.{Utf8, Utf16}
 use Rattle.editor_documents.specs.declared.position.Position.{Position}
-use Rattle.editor_documents.proofs.PositionLemmas.{line_feed, line_return, line_goes_on, at_start, past_character}
+use Rattle.editor_documents.proofs.PositionLemmas.{line_feed, line_return, line_goes_on, next_lines, at_start, past_character}
 
 one_or_two : (b : Bool) → 0 < (if b then 1 else 2)
 one_or_two true = omega arith
@@ -125,9 +125,9 @@ module _ (s u : Text) (is : next_line s ≡ Some u) where
   line_after zero t h = let same : t ≡ s = cc in ap (λ r. Some (unwrap_or (next_line r) [])) same ∙ ap (λ o. Some (unwrap_or o [])) is
   line_after (suc zero) t h = second_line (next_line t) h
   line_after (suc (suc n)) t h =
-      ap (λ m. from_line m t) (further n) ∙ later_line (suc n) (next_line t) (line_after (suc n)) h where
-        further : (n : ℕ) → suc (suc n) + 1 ≡ suc (suc (n + 1))
-        further n = omega arith
+      let same : suc (suc n) + 1 - 1 ≡ suc n + 1 = omega arith in
+      next_lines (suc (suc n) + 1) t (omega arith) ∙ ap (λ m. option_and_then (from_line m) (next_line t)) same
+      ∙ later_line (suc n) (next_line t) (line_after (suc n)) h
 
 -- the text after the end of a line that begins with a character
 pub returned : (c : ℕ) (t u : Text) → c ≡ code "\r" → after_line_feed t ≡ u → next_line (c ∷ t) ≡ Some u

@@ -50,7 +50,8 @@ pub next_lines : (n : ℕ) (t : Text) → 1 < n → from_line n t ≡ option_and
 unfolding from_line
 next_lines zero t h = absurd (omega arith)
 next_lines (suc zero) t h = absurd (omega arith)
-next_lines (suc (suc n)) t h = ap (λ m. option_and_then (from_line m) (next_line t)) (omega arith)
+next_lines (suc (suc n)) t h =
+    let same : suc n ≡ suc (suc n) - 1 = omega arith in ap (λ m. option_and_then (from_line m) (next_line t)) same
 
 -- ---- characters of a line
 
