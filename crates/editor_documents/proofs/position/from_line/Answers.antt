@@ -1,4 +1,4 @@
-use Rattle.std.proofs.Common.{rules, ◌≡◌, [], chars, Some, ap, ◌∙◌, ◌-◌, arith}
+use Rattle.std.proofs.Common.{rules, ◌≡◌, ◌≤◌, [], Some, ap, ◌∙◌, ◌-◌, arith}
 use Rattle.std.specs.Prelude.{option_and_then, unwrap_or}
 use Rattle.editor_documents.specs.Position as spec
 use Rattle.editor_documents.proofs.PositionLemmas.{first_line, one_line, next_lines}
@@ -19,17 +19,15 @@ loop-above-preserved c = record {
 
 pub returns-then-above-eq0 : goal.returns-then-above-eq0
 returns-then-above-eq0 c =
-    c.loop-above.invariant.same
-    ∙ first_line c.loop-above.above (chars c.loop-above.rest.now) (omega (arith, c.if-above-eq0.true))
+    let none : c.loop-above.above ≤ 0 = grind (arith, c.if-above-eq0.true) in
+    c.loop-above.invariant.same ∙ first_line _ _ none
 
 pub returns-in-Some : goal.returns-in-Some
 returns-in-Some c =
-    let one : c.loop-above.above ≡ 1 = omega (arith, c.loop-above-test.false, c.if-above-eq0.false) in
-    c.loop-above.invariant.same ∙ one_line c.loop-above.above (chars c.loop-above.rest.now) one
-    ∙ ap (λ o. Some (unwrap_or o [])) c.in-Some.ensures
+    let one : c.loop-above.above ≡ 1 = grind (arith, c.loop-above-test.false, c.if-above-eq0.false) in
+    c.loop-above.invariant.same ∙ one_line _ _ one ∙ ap (λ o. Some (unwrap_or o [])) c.in-Some.ensures
 
 pub returns-in-None : goal.returns-in-None
 returns-in-None c =
-    let one : c.loop-above.above ≡ 1 = omega (arith, c.loop-above-test.false, c.if-above-eq0.false) in
-    c.loop-above.invariant.same ∙ one_line c.loop-above.above (chars c.loop-above.rest.now) one
-    ∙ ap (λ o. Some (unwrap_or o [])) c.in-None.ensures
+    let one : c.loop-above.above ≡ 1 = grind (arith, c.loop-above-test.false, c.if-above-eq0.false) in
+    c.loop-above.invariant.same ∙ one_line _ _ one ∙ ap (λ o. Some (unwrap_or o [])) c.in-None.ensures
