@@ -1,5 +1,6 @@
-use Rattle.std.proofs.Common.{rules, ◌≡◌, ◌≤◌, [], Some, ap, ◌∙◌, ◌-◌, arith}
+use Rattle.std.proofs.Common.{rules, ◌≡◌, ◌≤◌, [], Some, ap, sym, ◌∙◌, ◌-◌, arith}
 use Rattle.std.specs.Prelude.{option_and_then, unwrap_or}
+use Rattle.std.proofs.lemmas.Str.{chars-nil}
 use Rattle.editor_documents.specs.Position as spec
 use Rattle.editor_documents.proofs.PositionLemmas.{first_line, one_line, next_lines}
 use Rattle.editor_documents.proofs.position.from_line.Goals as goal
@@ -31,3 +32,4 @@ pub returns-in-None : goal.returns-in-None
 returns-in-None c =
     let one : c.loop-above.above ≡ 1 = grind (arith, c.loop-above-test.false, c.if-above-eq0.false) in
     c.loop-above.invariant.same ∙ one_line _ _ one ∙ ap (λ o. Some (unwrap_or o [])) c.in-None.ensures
+    ∙ ap Some (sym chars-nil)
