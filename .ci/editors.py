@@ -1,7 +1,7 @@
 """Editors as clients of `patterns server`, for `.ci/runs`.
 
 Each opens a file, writes what is reported, fixes what can be fixed in its first line, formats it, and saves it. An editor that is not
-installed is left out, and standard error says so.
+installed is left out, and standard error says so. Neovim also edits files at random.
 
 The settings of docs/editors.md for editors without a server are tried too: the `errorformat` of Vim by Neovim, and the matcher of VS Code
 by its expression.
@@ -57,6 +57,17 @@ def edited(editor: Editor) -> Output:
         env = {**os.environ, "PATTERNS": str(path_of("patterns")), "FILE": str(file), "HOME": folder, "XDG_STATE_HOME": folder}
         got = subprocess.run(editor.command, cwd=folder, env=env, stdin=subprocess.DEVNULL, capture_output=True, timeout=300, check=False)
         return Output(decoded(got.stdout) + decoded(file.read_bytes()), decoded(got.stderr), got.returncode)
+
+
+def edited_at_random(seed: int) -> Output:
+    """Whether the server has the text of Neovim after each of some commands, in a file without a line feed at its end."""
+    with tempfile.TemporaryDirectory() as folder:
+        file = Path(folder) / "words.txt"
+        file.write_bytes(b"ab\ncd\nef")
+        env = {"PATTERNS": str(path_of("patterns")), "FILE": str(file), "SEED": str(seed), "HOME": folder, "XDG_STATE_HOME": folder}
+        command = ("nvim", "--headless", "--clean", "-c", f"luafile {TOP}/.ci/neovim_edits.lua")
+        got = subprocess.run(command, cwd=folder, env={**os.environ, **env}, stdin=subprocess.DEVNULL, capture_output=True, timeout=300, check=False)
+        return Output(decoded(got.stdout), decoded(got.stderr), got.returncode)
 
 
 # ---- without a server
@@ -117,4 +128,5 @@ def parts() -> dict:
     checks.append(Check("editors/matcher", run, LISTED, listed_by_matcher))
     if shutil.which("nvim") is not None:
         checks.append(Check("editors/errorformat", listed_by_vim, LISTED, lambda got: got.out))
+        checks += [Check(f"editors/neovim edits {it}", partial(edited_at_random, it), "same\n", lambda got: got.out) for it in (1, 2, 3)]
     return {"editors": checks}

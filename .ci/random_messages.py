@@ -47,10 +47,10 @@ def units(c: str, utf8: bool) -> int:
 
 
 def index_of(text: str, position: dict, utf8: bool) -> Optional[int]:
-    """How many characters are before a position; None if there is no such position."""
+    """How many characters are before a position; None if there is no such position. The line after the last one is the end."""
     lines = lines_of(text)
     if position["line"] >= len(lines):
-        return None
+        return len(text) if position["line"] == len(lines) else None
     start, end = lines[position["line"]]
     left = position["character"]
     while left > 0 and start < end:
@@ -101,7 +101,7 @@ def some_grammar(rng: random.Random) -> str:
 def some_position(rng: random.Random, text: str) -> dict:
     """A position, which may be wrong."""
     lines = lines_of(text)
-    line = rng.randrange(len(lines) + (rng.random() < 0.05))
+    line = rng.randrange(len(lines) + 2 * (rng.random() < 0.05))
     width = len(text) if line >= len(lines) else lines[line][1] - lines[line][0]
     return {"line": line, "character": rng.randrange(width + 3)}
 

@@ -1,8 +1,8 @@
 -- The text from a position on is an end of the text; changes one after another.
-use Rattle.std.proofs.Common.{◌≡◌, ℕ, zero, suc, Bool, true, false, List, [], ◌∷◌, ◌++◌, Option, Some, None, refl, ap, sym, subst, ◌∙◌, append_assoc, ◌<◌, ◌≤◌, ◌+◌, length, drop, get_or, arith}
+use Rattle.std.proofs.Common.{◌≡◌, ℕ, zero, suc, Bool, true, false, List, [], ◌∷◌, ◌++◌, Option, Some, None, refl, ap, sym, subst, ◌∙◌, append_assoc, append-nil, ◌<◌, ◌≤◌, ◌+◌, length, drop, get_or, arith}
 use Rattle.std.proofs.lemmas.List.{drop_more, drop_all}
 use Rattle.std.proofs.Common.{if◌then◌else◌, ◌==◌, ◌||◌, nat_le, ◌-◌}
-use Rattle.std.specs.Prelude.{option_and_then, IfSome}
+use Rattle.std.specs.Prelude.{option_and_then, unwrap_or, IfSome}
 use Prim.Native.Char.{code}
 use Rattle.editor_documents.specs.Position.{Text, units, ends_line, after_line_feed, next_line, from_line, from_character, from_position}
 use Rattle.editor_documents.specs.Change.{EndsWith, with_change, with_changes}
@@ -49,10 +49,15 @@ line_ends (c ∷ t) =
     (choice (c == code "\r") (c ∷ t) _ _ (one_more c t (Some (after_line_feed t)) (feed_ends t))
     (one_more c t (next_line t) (line_ends t)))
 
+or_end : (t : Text) (o : Option Text) → EndIn t o → EndIn t (Some (unwrap_or o []))
+or_end t None h = (t, sym (append-nil t))
+or_end t (Some r) h = h
+
 lines_end : (n : ℕ) (t : Text) → EndIn t (from_line n t)
 unfolding from_line
 lines_end zero t = all t
-lines_end (suc n) t = chain t (next_line t) (from_line n) (line_ends t) (lines_end n)
+lines_end (suc zero) t = or_end t (next_line t) (line_ends t)
+lines_end (suc (suc n)) t = chain t (next_line t) (from_line (suc n)) (line_ends t) (lines_end (suc n))
 
 character_ends : (e : Encoding) (t : Text) (n : ℕ) → EndIn t (from_character e n t)
 unfolding from_character

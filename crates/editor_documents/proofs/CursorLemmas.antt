@@ -1,7 +1,7 @@
 -- The position after a character, and after the end of a line.
 use Rattle.std.proofs.Common.{◌≡◌, ◌≢◌, ◌<◌, ◌≤◌, ◌+◌, ◌-◌, ℕ, zero, suc, Bool, true, false, [], ◌∷◌, Option, Some, None, refl, ap, ◌∙◌, arith}
 use Rattle.std.proofs.Common.{if◌then◌else◌, ◌==◌, ◌||◌, nat_le, nat_lt}
-use Rattle.std.specs.Prelude.{option_and_then}
+use Rattle.std.specs.Prelude.{option_and_then, unwrap_or}
 use Rattle.std.specs.Char.{len_utf8}
 use Rattle.std.proofs.lemmas.Bool.Decides.{nat_tests}
 use Rattle.std.proofs.lemmas.Str.{len_utf8_bounds}
@@ -10,7 +10,7 @@ use Rattle.editor_documents.specs.Position.{Text, units, ends_line, after_line_f
 use Rattle.editor_documents.specs.declared.position.Encoding.{Encoding}
 use Rattle.editor_documents.specs.declared.position.Encoding.TheVariants.{Utf8, Utf16}
 use Rattle.editor_documents.specs.declared.position.Position.{Position}
-use Rattle.editor_documents.proofs.PositionLemmas.{line_feed, line_return, line_goes_on, at_start, past_character}
+use Rattle.editor_documents.proofs.PositionLemmas.{line_feed, line_return, line_goes_on, next_lines, at_start, past_character}
 
 one_or_two : (b : Bool) → 0 < (if b then 1 else 2)
 one_or_two true = omega arith
@@ -104,23 +104,30 @@ one_further e (d ∷ s) n c r p h =
 
 -- ---- lines
 
-one_line : (o : Option Text) → option_and_then (from_line 0) o ≡ o
-unfolding from_line
-one_line None = refl
-one_line (Some t) = refl
+module _ (s u : Text) (is : next_line s ≡ Some u) where
+  no_line : s ≡ [] → ⊥
+  unfolding next_line
+  no_line e = let none : next_line s ≡ None = ap next_line e in absurd (cc)
 
-then_next : (n : ℕ) (o : Option Text) → ((t : Text) → from_line (n + 1) t ≡ option_and_then next_line (from_line n t)) →
-    option_and_then (from_line (n + 1)) o ≡ option_and_then next_line (option_and_then (from_line n) o)
-then_next n None ih = refl
-then_next n (Some t) ih = ih t
+  second_line : (o : Option Text) → Some (unwrap_or o []) ≡ Some s → option_and_then (from_line 1) o ≡ Some u
+  unfolding from_line
+  second_line None h = let none : s ≡ [] = cc in absurd (no_line none)
+  second_line (Some t) h = let same : t ≡ s = cc in ap (λ r. Some (unwrap_or (next_line r) [])) same ∙ ap (λ o. Some (unwrap_or o [])) is
 
-line_after : (n : ℕ) (t : Text) → from_line (n + 1) t ≡ option_and_then next_line (from_line n t)
-unfolding from_line
-line_after zero t = one_line (next_line t)
-line_after (suc n) t =
-    ap (λ m. from_line m t) (further n) ∙ then_next n (next_line t) (line_after n) where
-      further : (n : ℕ) → suc n + 1 ≡ suc (n + 1)
-      further n = omega arith
+  later_line : (n : ℕ) (o : Option Text) → ((t : Text) → from_line n t ≡ Some s → from_line (n + 1) t ≡ Some u) →
+      option_and_then (from_line n) o ≡ Some s → option_and_then (from_line (n + 1)) o ≡ Some u
+  later_line n None ih h = absurd (cc)
+  later_line n (Some t) ih h = ih t h
+
+  -- the line after one that another follows
+  line_after : (n : ℕ) (t : Text) → from_line n t ≡ Some s → from_line (n + 1) t ≡ Some u
+  unfolding from_line
+  line_after zero t h = let same : t ≡ s = cc in ap (λ r. Some (unwrap_or (next_line r) [])) same ∙ ap (λ o. Some (unwrap_or o [])) is
+  line_after (suc zero) t h = second_line (next_line t) h
+  line_after (suc (suc n)) t h =
+      let same : suc (suc n) + 1 - 1 ≡ suc n + 1 = omega arith in
+      next_lines (suc (suc n) + 1) t (omega arith) ∙ ap (λ m. option_and_then (from_line m) (next_line t)) same
+      ∙ later_line (suc n) (next_line t) (line_after (suc n)) h
 
 -- the text after the end of a line that begins with a character
 pub returned : (c : ℕ) (t u : Text) → c ≡ code "\r" → after_line_feed t ≡ u → next_line (c ∷ t) ≡ Some u
@@ -136,11 +143,11 @@ fed c t h k = line_feed (c ∷ t) c t refl (feed h k) where
 -- ---- positions
 
 module _ (e : Encoding) (line n c : ℕ) (r t : Text) where
-  line_step : (o : Option Text) (u : Text) → option_and_then (from_character e n) o ≡ Some (c ∷ r) → next_line (c ∷ r) ≡ Some u →
-      option_and_then (from_character e 0) (option_and_then next_line o) ≡ Some u
-  line_step None u h is = absurd (cc)
-  line_step (Some s) u h is =
-      ap (option_and_then (from_character e 0)) (to_line_end e s n c r h ∙ is) ∙ at_start e 0 u (omega arith)
+  line_step : (o : Option Text) (u : Text) → from_line line t ≡ o → option_and_then (from_character e n) o ≡ Some (c ∷ r) →
+      next_line (c ∷ r) ≡ Some u → option_and_then (from_character e 0) (from_line (line + 1) t) ≡ Some u
+  line_step None u at h is = absurd (cc)
+  line_step (Some s) u at h is =
+      ap (option_and_then (from_character e 0)) (line_after s u (to_line_end e s n c r h ∙ is) line t at) ∙ at_start e 0 u (omega arith)
 
   character_step : (o : Option Text) → ends_line c ≡ false → option_and_then (from_character e n) o ≡ Some (c ∷ r) →
       option_and_then (from_character e (n + units e c)) o ≡ Some r
@@ -155,9 +162,7 @@ start_is e t = at_start e 0 t (omega arith)
 module _ (e : Encoding) (p : Position) (c : ℕ) (r t : Text) (at : from_position e p t ≡ Some (c ∷ r)) where
   -- the position after the end of a line
   pub after_line : (u : Text) → next_line (c ∷ r) ≡ Some u → from_position e (record { line = p.line + 1; character = 0 }) t ≡ Some u
-  after_line u is =
-      ap (option_and_then (from_character e 0)) (line_after p.line t)
-      ∙ line_step e p.line p.character c r t (from_line p.line t) u at is
+  after_line u is = line_step e p.line p.character c r t (from_line p.line t) u refl at is
 
   -- the position after another character
   pub after_character : ends_line c ≡ false →

@@ -1,7 +1,7 @@
 -- Steps of the definitions of positions, by the tests of the code.
 use Rattle.std.proofs.Common.{◌≡◌, ◌≢◌, ◌<◌, ◌≤◌, ℕ, ◌-◌, zero, suc, Bool, true, false, [], ◌∷◌, Some, None, refl, ap, sym, ◌∙◌, arith}
 use Rattle.std.proofs.Common.{if◌then◌else◌, ◌==◌, ◌||◌, nat_le}
-use Rattle.std.specs.Prelude.{option_and_then}
+use Rattle.std.specs.Prelude.{option_and_then, unwrap_or}
 use Rattle.std.proofs.lemmas.Bool.Decides.{nat_tests}
 use Prim.Native.Char.{code}
 use Rattle.editor_documents.specs.Position.{Text, units, ends_line, after_line_feed, next_line, from_line, from_character}
@@ -42,10 +42,16 @@ unfolding from_line
 first_line zero t h = refl
 first_line (suc n) t h = absurd (omega arith)
 
-pub next_lines : (n : ℕ) (t : Text) → 0 < n → from_line n t ≡ option_and_then (from_line (n - 1)) (next_line t)
+pub one_line : (n : ℕ) (t : Text) → n ≡ 1 → from_line n t ≡ Some (unwrap_or (next_line t) [])
+unfolding from_line
+one_line n t h = ap (λ m. from_line m t) h
+
+pub next_lines : (n : ℕ) (t : Text) → 1 < n → from_line n t ≡ option_and_then (from_line (n - 1)) (next_line t)
 unfolding from_line
 next_lines zero t h = absurd (omega arith)
-next_lines (suc n) t h = ap (λ m. option_and_then (from_line m) (next_line t)) (omega arith)
+next_lines (suc zero) t h = absurd (omega arith)
+next_lines (suc (suc n)) t h =
+    let same : suc n ≡ suc (suc n) - 1 = omega arith in ap (λ m. option_and_then (from_line m) (next_line t)) same
 
 -- ---- characters of a line
 

@@ -1,5 +1,5 @@
 -- Positions in texts: how many lines are before, and how many units of the line are.
-use Rattle.std.specs.Prelude.{ℕ, ◌-◌, zero, suc, Bool, ◌||◌, ◌&&◌, ◌==◌, nat_lt, nat_le, List, [], ◌∷◌, Option, Some, None, option_and_then}
+use Rattle.std.specs.Prelude.{ℕ, ◌-◌, zero, suc, Bool, ◌||◌, ◌&&◌, ◌==◌, nat_lt, nat_le, List, [], ◌∷◌, Option, Some, None, option_and_then, unwrap_or}
 use Rattle.std.specs.Prelude.{if◌then◌else◌}
 use Rattle.std.specs.Char.{len_utf8}
 use Prim.Native.Char.{code}
@@ -30,10 +30,11 @@ unfoldable pub next_line : Text → Option Text
 next_line [] = None
 next_line (c ∷ t) = if c == code "\n" then Some t else if c == code "\r" then Some (after_line_feed t) else next_line t
 
--- the text from the line on that has n lines before it, if there is one
+-- the text from the line on that has n lines before it, if there is one; the line after the last one is the end
 unfoldable pub from_line : ℕ → Text → Option Text
 from_line zero t = Some t
-from_line (suc n) t = option_and_then (from_line n) (next_line t)
+from_line (suc zero) t = Some (unwrap_or (next_line t) [])
+from_line (suc (suc n)) t = option_and_then (from_line (suc n)) (next_line t)
 
 -- the text from n units of its first line on, or from the end of this line if it has fewer; none inside a character
 unfoldable pub from_character : Encoding → ℕ → Text → Option Text

@@ -79,17 +79,23 @@ fn next_line(text: &str) -> Option<&str>
     None
 }
 
-/// The text from the line on that has so many before it; None if there is no such line.
+/// The text from the line on that has so many before it, which is the end after the last one; None if there is no such line.
 fn from_line(text: &str, line: usize) -> Option<&str>
     ensures { spec.from_line line (chars text.now) ≡ option_map (λ rest. chars rest.now) result }
 {
     let mut rest = text;
     let mut above = line;
-    while above > 0 {
+    while above > 1 {
         rest = next_line(rest)?;
         above -= 1;
     }
-    Some(rest)
+    if above == 0 {
+        return Some(rest);
+    }
+    match next_line(rest) {
+        Some(next) => Some(next),
+        None => Some(""),
+    }
 }
 
 /// The text from so many units of its first line on, or from the end of this line if it has fewer; None if that is inside a
@@ -112,7 +118,8 @@ fn from_character(encoding: Encoding, text: &str, character: usize) -> Option<&s
     Some(rest)
 }
 
-/// The text from the position on; None if the text has no such line, or the position is inside a character.
+/// The text from the position on; None if the text has no such line, or the position is inside a character. After the last line
+/// is one more, at the end: ranges that contain all of the last one end there.
 pub fn from_position(encoding: Encoding, text: &str, position: Position) -> Option<&str>
     ensures { spec.from_position encoding position (chars text.now) ≡ option_map (λ rest. chars rest.now) result }
 {
