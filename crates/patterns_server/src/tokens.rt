@@ -68,27 +68,42 @@ fn kind_of(node: &Expr) -> Option<TokenKind> {
     }
 }
 
+/// Where a part of the pattern begins that follows the byte offset, after blanks and what no node has.
+fn after_trivia(pattern: &str, trivia: &[Trivium], offset: usize) -> Option<usize> {
+    let mut start = offset;
+    let first = trivia.partition_point(|trivium| trivium.span.start < offset);
+    for trivium in trivia.get(first..)? {
+        let between = pattern.get(start..trivium.span.start)?;
+        if !between.trim().is_empty() {
+            break;
+        }
+        start = trivium.span.end;
+    }
+    let rest = pattern.get(start..)?;
+    Some(pattern.len().saturating_sub(rest.trim_start().len()))
+}
+
 /// The quantifier of a repeat: what follows its operand.
-fn quantifier(node: SpannedNode<'_>) -> Option<Span> {
+fn quantifier(node: SpannedNode<'_>, pattern: &str, trivia: &[Trivium]) -> Option<Span> {
     let Expr::Repeat { .. } = node.expr() else {
         return None;
     };
     let operand = node.children().next()?;
     Some(Span {
-        start: operand.span().end,
+        start: after_trivia(pattern, trivia, operand.span().end)?,
         end: node.span().end,
     })
 }
 
 /// The tokens of a pattern, in the order of the text.
-fn tokens_of(alloc: Global, parsed: &SpannedTree) -> Result<Vec<Token>, AllocError> {
+fn tokens_of(alloc: Global, pattern: &str, parsed: &SpannedTree) -> Result<Vec<Token>, AllocError> {
     let mut tokens = Vec::new(alloc);
     for node in &nodes_of(alloc, parsed)? {
         if let Some(kind) = kind_of(node.expr()) {
             let span = node.span();
             tokens.push(Token { span, kind })?;
         }
-        if let Some(span) = quantifier(*node) {
+        if let Some(span) = quantifier(*node, pattern, &parsed.trivia) {
             let kind = TokenKind::Operator;
             tokens.push(Token { span, kind })?;
         }
@@ -145,7 +160,7 @@ impl Visitor for TokenWalk<'_> {
             return Ok(());
         };
         let mut end = 0usize;
-        for token in &tokens_of(self.alloc, &parsed)? {
+        for token in &tokens_of(self.alloc, entry.pattern, &parsed)? {
             if token.span.start >= end {
                 self.write(located, *token)?;
                 end = token.span.end;
