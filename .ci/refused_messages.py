@@ -3,12 +3,14 @@
 of sessions.
 
 The server gets all messages of an exchange at once. It has to answer each request once, with the result that it has without a refusal, or that
-memory ran out, without an id if the request was not read; or to end with status 3, after a part of its answers. After a message that is not
-done it may answer otherwise.
+memory ran out, without an id if the request was not read; or to end with status 3, after a part of its answers. Where memory ran out for the
+answer to a message that is no request, that may be shown instead. After a notification that is not done, or a request that begins or ends the
+session, it may answer otherwise.
 """
 import json
 import os
 import random
+import re
 import subprocess
 import sys
 import tempfile
@@ -16,13 +18,13 @@ from concurrent.futures import ThreadPoolExecutor
 from io import BytesIO
 from itertools import count
 from pathlib import Path
-from typing import NamedTuple
+from typing import NamedTuple, Optional
 
 from exchanges import EXCHANGES, message, parts_of
 from programs import decoded
 from random_messages import session
 
-INTERNAL = -32603
+INTERNAL, INVALID = -32603, -32600
 SESSIONS = 200
 # How many requests for memory a session has at most of which one is refused.
 REQUESTS = 1200
@@ -53,19 +55,43 @@ def answers(session: Session) -> list:
     return [it for it in session.messages if "id" in it]
 
 
-def is_right(got: Session, wanted: Session) -> bool:
+def code_of(answer: dict) -> Optional[int]:
+    """The code of the error, if it is one."""
+    return answer.get("error", {}).get("code")
+
+
+def bounds(sent: bytes) -> set:
+    """The ids of the requests that begin or end the session."""
+    found = re.findall(rb'"id"\s*:\s*([^,]+),\s*"method"\s*:\s*"(?:initialize|shutdown)"', sent)
+    return {json.loads(it) for it in found}
+
+
+def paired(own: list, wanted: list) -> Optional[list]:
+    """Each answer with the wanted one of its id, in order; None if there is none."""
+    pairs, left = [], iter(wanted)
+    for it in own:
+        other = next((one for one in left if one["id"] == it["id"]), None)
+        if other is None:
+            return None
+        pairs.append((it, other))
+    return pairs
+
+
+def is_right(sent: bytes, got: Session, wanted: Session) -> bool:
     """Whether the session with a refusal is as it has to be."""
-    own = [it for it in answers(got) if it["id"] is not None]
+    own, all_wanted = ([it for it in answers(session) if it["id"] is not None] for session in (got, wanted))
     unknown = [it for it in answers(got) if it["id"] is None and it["error"]["code"] == INTERNAL]
-    by_id = {it["id"]: it for it in answers(wanted) if it["id"] is not None}
-    ids = [it["id"] for it in own]
-    missing = len(by_id) - len(own)
-    if ids != [it for it in by_id if it in ids] or got.status != 3 and missing > len(unknown):
+    pairs = paired(own, all_wanted)
+    if pairs is None or got.status == 3:
+        return pairs is not None
+    shown = [it for it in got.messages if it.get("method") == "window/showMessage"]
+    found = [other for _, other in pairs]
+    missing = [it for it in all_wanted if it not in found]
+    if len(missing) > len(unknown) and not (shown and all(code_of(it) == INVALID for it in missing)):
         return False
-    if got.status == 3:
-        return True
-    is_changed = unknown or any(it.get("method") == "window/showMessage" for it in got.messages)
-    same = all(it == by_id[it["id"]] or it.get("error", {}).get("code") == INTERNAL for it in own)
+    undone = [it["id"] for it in own if code_of(it) == INTERNAL]
+    is_changed = unknown or bounds(sent) & set(undone) or shown
+    same = all(it == other or it["id"] in undone for it, other in pairs)
     return bool(is_changed) or got.status == wanted.status and same
 
 
@@ -75,7 +101,7 @@ def refused(program: str, library: str, file: Path) -> int:
     wanted = played(program, sent, {})
     for number in count(1):
         got = played(program, sent, {"REFUSED_REQUEST": str(number), "LD_PRELOAD": library})
-        assert is_right(got, wanted), (file.name, number, got.status, got.messages)
+        assert is_right(sent, got, wanted), (file.name, number, got.status, got.messages)
         if not got.is_refused:
             return number - 1
 
@@ -87,7 +113,7 @@ def refused_at_random(program: str, library: str, seed: int) -> int:
     wanted, total = played(program, sent, {}), 0
     for number in (rng.randrange(1, REQUESTS + 1) for _ in range(4)):
         got = played(program, sent, {"REFUSED_REQUEST": str(number), "LD_PRELOAD": library})
-        assert is_right(got, wanted), (sent, number, got.status, got.messages)
+        assert is_right(sent, got, wanted), (sent, number, got.status, got.messages)
         total += got.is_refused
     return total
 
