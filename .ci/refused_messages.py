@@ -67,7 +67,7 @@ def bounds(sent: bytes) -> set:
 
 
 def paired(own: list, wanted: list) -> Optional[list]:
-    """Each answer with the wanted one of its id, in order; None if there is none."""
+    """Each answer with the wanted one of its id, in order; None if one is not wanted."""
     pairs, left = [], iter(wanted)
     for it in own:
         other = next((one for one in left if one["id"] == it["id"]), None)

@@ -55,7 +55,7 @@ def output_in_time(words: list, folder: Path, **options) -> Output:
 
 
 def replaced(prepare: Callable, user: int, rest: bytes) -> Output:
-    """What a user makes of a folder of everybody with the file `a|a`, with a rest behind that, after something was done with it. What
+    """What a user makes of a folder of everybody with the file `a|a`, and a rest after that, once something was done with it. What
     `prepare` returns is closed after the run."""
     with tempfile.TemporaryDirectory() as name:
         folder = Path(name) / "folder"
