@@ -3,9 +3,8 @@
 of sessions.
 
 The server gets all messages of an exchange at once. It has to answer each request once, with the result that it has without a refusal, or that
-memory ran out, without an id if the request was not read; or to end with status 3, after a part of its answers. Where memory ran out for the
-answer to a message that is no request, that may be shown instead. After a notification that is not done, or a request that begins or ends the
-session, it may answer otherwise.
+memory ran out, without an id if the request was not read; or to end with status 3, after a part of its answers. After a notification that is
+not done, or a request that begins or ends the session, it may answer otherwise.
 """
 import json
 import os
@@ -24,7 +23,7 @@ from exchanges import EXCHANGES, message, parts_of
 from programs import decoded
 from random_messages import session
 
-INTERNAL, INVALID = -32603, -32600
+INTERNAL = -32603
 SESSIONS = 200
 # How many requests for memory a session has at most of which one is refused.
 REQUESTS = 1200
@@ -84,13 +83,10 @@ def is_right(sent: bytes, got: Session, wanted: Session) -> bool:
     pairs = paired(own, all_wanted)
     if pairs is None or got.status == 3:
         return pairs is not None
-    shown = [it for it in got.messages if it.get("method") == "window/showMessage"]
-    found = [other for _, other in pairs]
-    missing = [it for it in all_wanted if it not in found]
-    if len(missing) > len(unknown) and not (shown and all(code_of(it) == INVALID for it in missing)):
+    if len(all_wanted) - len(own) > len(unknown):
         return False
     undone = [it["id"] for it in own if code_of(it) == INTERNAL]
-    is_changed = unknown or bounds(sent) & set(undone) or shown
+    is_changed = unknown or bounds(sent) & set(undone) or any(it.get("method") == "window/showMessage" for it in got.messages)
     same = all(it == other or it["id"] in undone for it, other in pairs)
     return bool(is_changed) or got.status == wanted.status and same
 

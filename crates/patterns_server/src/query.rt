@@ -53,13 +53,14 @@ pub(crate) struct ReadPattern<'d, 's, 't> {
 
 /// The number of the group that a reference refers to, if it refers to one.
 fn referred(node: &Expr) -> Option<usize> {
-    match node {
-        Expr::Backref { group, .. }
-        | Expr::BackrefWithRelativeRecursionLevel { group, .. }
-        | Expr::BackrefExistsCondition { group, .. }
-        | Expr::SubroutineCall(group) => Some(*group),
-        _ => None,
+    if let Expr::Backref { group, .. }
+    | Expr::BackrefWithRelativeRecursionLevel { group, .. }
+    | Expr::BackrefExistsCondition { group, .. }
+    | Expr::SubroutineCall(group) = node
+    {
+        return Some(*group);
     }
+    None
 }
 
 impl<'t> ReadPattern<'_, '_, 't> {

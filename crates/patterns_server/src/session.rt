@@ -118,6 +118,18 @@ impl<'a, S: System, W: Write> Session<'a, S, W> {
         self.send(&message)
     }
 
+    /// Refuses a message if memory ran out for the answer.
+    fn or_refuse(
+        &mut self,
+        id: Option<Id<'_>>,
+        done: Result<(), RunError>,
+    ) -> Result<(), RunError> {
+        match done {
+            Err(RunError::Memory(_)) => self.refuse(id, ErrorCode::Internal, OUT_OF_MEMORY),
+            done => done,
+        }
+    }
+
     /// Shows a text to the person at the client, as an error.
     pub(crate) fn show(&mut self, text: &str) -> Result<(), RunError> {
         let mut writer = begin_notification(self.given.alloc, "window/showMessage")?;
@@ -170,7 +182,8 @@ impl<'a, S: System, W: Write> Session<'a, S, W> {
             }
             Message::Response => {}
             Message::Invalid(id) => {
-                self.refuse(id, ErrorCode::InvalidRequest, "the message is no request")?;
+                let done = self.refuse(id, ErrorCode::InvalidRequest, "the message is no request");
+                self.or_refuse(id, done)?;
             }
         }
         Ok(Flow::GoOn)
@@ -188,10 +201,7 @@ impl<'a, S: System, W: Write> Session<'a, S, W> {
             Decision::Answer(method) => self.answer(id, method, params),
             Decision::Refuse(code) => self.refuse(Some(id), code, reason_of(code)),
         };
-        match done {
-            Err(RunError::Memory(_)) => self.refuse(Some(id), ErrorCode::Internal, OUT_OF_MEMORY),
-            done => done,
-        }
+        self.or_refuse(Some(id), done)
     }
 
     /// Agrees with the client on what both can do.
