@@ -1,5 +1,5 @@
 //! The spellings that are valid here, and that other dialects read otherwise.
-use crate::dialect::Dialect;
+use crate::dialect::{DIALECT_NAMES, Dialect};
 use std::fmt;
 
 /// What is spelled so that another dialect reads something else.
@@ -57,6 +57,16 @@ struct DifferenceRow {
     advice: &'static str,
 }
 
+const ALL: &[Dialect] = &[
+    Dialect::Java,
+    Dialect::JavaScript,
+    Dialect::Oniguruma,
+    Dialect::Pcre,
+    Dialect::Perl,
+    Dialect::Python,
+    Dialect::Ruby,
+];
+
 const JAVA_PCRE_PERL: &[Dialect] = &[Dialect::Java, Dialect::Pcre, Dialect::Perl];
 
 const PCRE_PERL: &[Dialect] = &[Dialect::Pcre, Dialect::Perl];
@@ -90,7 +100,7 @@ static ROWS: [DifferenceRow; 16] = [
         here: r"`\<` and `\>` are the start and the end of a word",
         readings: &[Reading {
             what: "these characters",
-            dialects: &[Dialect::Java, Dialect::Pcre, Dialect::Perl, Dialect::Python],
+            dialects: ALL,
         }],
         advice: r"write `\b(?=\w)` for the start of a word, `\b(?<=\w)` for the end, or the character without the backslash",
     },
@@ -213,6 +223,9 @@ struct Listed(&'static [Dialect]);
 impl fmt::Display for Listed {
     fn fmt<W: fmt::Write>(&self, f: &mut fmt::Formatter<W>) -> fmt::Result {
         let Listed(dialects) = *self;
+        if dialects.len() == DIALECT_NAMES.len() {
+            return f.write_str("every other dialect");
+        }
         for (index, dialect) in dialects.iter().enumerate() {
             let before = if index == 0 {
                 ""
