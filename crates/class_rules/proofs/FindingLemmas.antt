@@ -128,17 +128,18 @@ keeps_of_branch f pattern node start xs ys y is keeps this tree k all =
 
 -- a class that looks like something else
 pub suspicious : (flags : ℕ) (class : ClassText) (xs : List ClassFinding) (span : Span) (look : ClassLook) →
-    ∥ AreProblemsOf flags class xs ∥₁ → HasNeedless xs → ShowsLook class.source.now span look →
+    ∥ AreProblemsOf flags class xs ∥₁ → HasNeedless look class.source.now xs → ShowsLook class.source.now span look →
     ∥ IsProblemOf flags class (record { span = span; problem = problem.SuspiciousClass look }) ∥₁
-suspicious flags class xs span look all (k, x, inside, is, needless) shows =
+suspicious flags class xs span look all (k, x, inside, is, (needless, speaks)) shows =
     ∥∥₁_map all (λ ps.
     let this : IsProblemOf flags class x = subst (IsProblemOf flags class) is (ps k x inside) in
-    ((x.span, subst (IsProblemAt (flags_of flags) class.casei class.source.now class.text.now x.span) needless this), shows))
+    let left_out = subst (IsProblemAt (flags_of flags) class.casei class.source.now class.text.now x.span) needless this in
+    ((x.span, left_out, speaks), shows))
 
 -- the same, of what a class looks like, if anything
 pub suspicious_of : (flags : ℕ) (class : ClassText) (xs : List ClassFinding) (source : List ℕ) (o : Option LookAt)
     (found : LookAt) (span : Span) (look : ClassLook) → o ≡ Some found → span ≡ found.span → look ≡ found.look →
-    source ≡ class.source.now → ∥ AreProblemsOf flags class xs ∥₁ → IfSome o (λ _. HasNeedless xs) →
+    source ≡ class.source.now → ∥ AreProblemsOf flags class xs ∥₁ → IfSome o (λ f. HasNeedless f.look source xs) →
     IfSome o (λ f. ShowsLook source f.span f.look) →
     ∥ IsProblemOf flags class (record { span = span; problem = problem.SuspiciousClass look }) ∥₁
 suspicious_of flags class xs source None found span look is at like same all needless shows = absurd (cc)
@@ -146,5 +147,7 @@ suspicious_of flags class xs source (Some f) found span look is at like same all
     let this : f ≡ found = cc in
     let there : ShowsLook class.source.now found.span found.look =
     subst (λ g. ShowsLook class.source.now g.span g.look) this (subst (λ s. ShowsLook s f.span f.look) same shows) in
-    suspicious flags class xs span look all needless
+    let spoken : HasNeedless found.look class.source.now xs =
+    subst (λ g. HasNeedless g.look class.source.now xs) this (subst (λ s. HasNeedless f.look s xs) same needless) in
+    suspicious flags class xs span look all (subst (λ l. HasNeedless l class.source.now xs) (sym like) spoken)
     (subst (λ s. ShowsLook class.source.now s look) (sym at) (subst (λ l. ShowsLook class.source.now found.span l) (sym like) there))

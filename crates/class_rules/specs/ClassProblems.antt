@@ -1,5 +1,5 @@
 -- What is wrong with a class.
-use Rattle.std.specs.Prelude.{◌≡◌, ℕ, ◌+◌, ◌<◌, ◌≤◌, ◌⊎◌, Bool, false, ◌&&◌, nat_le, if◌then◌else◌, List, [], ◌∷◌, ◌++◌, chars, codes, All, Any}
+use Rattle.std.specs.Prelude.{◌≡◌, ⊤, ℕ, ◌+◌, ◌<◌, ◌≤◌, ◌⊎◌, Bool, false, ◌&&◌, nat_le, if◌then◌else◌, List, [], ◌∷◌, ◌++◌, chars, codes, All, Any}
 use Prim.Native.Char.{code}
 use Rattle.fancy_lex.specs.declared.flags.Flags.{Flags}
 use Rattle.fancy_syntax.specs.declared.span.Span.{Span}
@@ -121,10 +121,24 @@ ShowsLook source span DoubledBackslashes = IsAll source span × HasTwoBackslashe
 ShowsLook source span WideRange = IsWideRange source span
 ShowsLook source span Word = IsAll source span
 
--- a part of the class can be left out, and at the span is what shows that it is likely meant as something else
+-- the character is a digit or a letter of ASCII, or a bar
+abbrev pub IsChoiceCharacter : ℕ → Type 0
+IsChoiceCharacter c = (character_kind c ≡ Other → ⊥) ⊎ (c ≡ code "|")
+
+-- the part at the span begins with such a character
+abbrev pub BeginsAsChoice : List ℕ → Span → Type 0
+BeginsAsChoice source span =
+    (part rest : List ℕ) × (c : ℕ) × IsTextAt source span part × (chars part ≡ c ∷ rest) × IsChoiceCharacter c
+
+-- that the part at the span can be left out speaks for the look: for alternatives a bar, a digit or a letter does
+abbrev pub SpeaksFor : ClassLook → List ℕ → Span → Type 0
+SpeaksFor Alternatives source span = BeginsAsChoice source span
+SpeaksFor _ source span = ⊤
+
+-- a part of the class can be left out, which speaks for the look; and at the span is what shows this look
 abbrev pub IsSuspicious : Flags → Bool → List ℕ → Span → ClassLook → Type 0
 IsSuspicious f casei source span look =
-    ((part : Span) × IsNeedless f casei source part) × ShowsLook source span look
+    ((part : Span) × IsNeedless f casei source part × SpeaksFor look source part) × ShowsLook source span look
 
 -- The problem is one of the class that the pattern has as `source`, and for which the engine is given `text`; it is
 -- wrong with the part of the source at the span. That a branch is contained is no problem of a class.
@@ -151,6 +165,7 @@ abbrev pub KeepsProblems : Flags → Bool → List ℕ → List ClassFinding →
 KeepsProblems f casei source old new =
     (text : List ℕ) → AreProblems f casei source text old → AreProblems f casei source text new
 
--- one of the findings is of a part that can be left out
-abbrev pub HasNeedless : List ClassFinding → Type 0
-HasNeedless = Any (λ finding. finding.problem ≡ problem.DuplicateCharacters)
+-- one of the findings is of a part that can be left out, which speaks for the look
+abbrev pub HasNeedless : ClassLook → List ℕ → List ClassFinding → Type 0
+HasNeedless look source =
+    Any (λ finding. (finding.problem ≡ problem.DuplicateCharacters) × SpeaksFor look source finding.span)

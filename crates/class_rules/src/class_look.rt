@@ -1,10 +1,11 @@
 //! What a class with needless items is likely meant as.
 ghost use Rattle.std.specs.Prelude.{◌≤◌, codes, IfOk, IfSome, IsTrue};
-ghost use Rattle.class_rules.specs.ClassProblems.{HasBar, HasNeedless, HasTwoBackslashes, IsAfterCaret, IsBetweenColons, IsCharacterAt, IsWideRange, ShowsLook};
+ghost use Rattle.class_rules.specs.ClassProblems.{BeginsAsChoice, HasBar, HasNeedless, HasTwoBackslashes, IsAfterCaret, IsBetweenColons, IsCharacterAt, IsChoiceCharacter, IsWideRange, ShowsLook};
 ghost use Rattle.class_rules.specs.ClassSource.{IsAll, IsTextAt};
+ghost use Rattle.class_rules.specs.declared.class_problem.ClassLook.TheVariants.{Alternatives, Word};
 
 use crate::class_items::{ClassItem, items_of, push_ranges};
-use crate::class_problem::{ClassFinding, ClassLook, ClassProblem};
+use crate::class_problem::{CharacterKind, ClassFinding, ClassLook, ClassProblem};
 use crate::class_source::ClassSource;
 use crate::mixed_range::is_wide;
 use fancy_lex::text::next;
@@ -84,24 +85,41 @@ fn has_bar(source: &str, items: &[ClassItem]) -> bool
     false
 }
 
-/// Whether an item can be left out that is no escape.
-fn has_plain_needless(source: &str, findings: &[ClassFinding]) -> bool {
+/// Whether the character is a digit or a letter of ASCII, or a bar.
+fn is_choice_character(c: char) -> bool
+    ensures { IsTrue result → IsChoiceCharacter c }
+{
+    if CharacterKind::of(c) != CharacterKind::Other {
+        return true;
+    }
+    c == '|'
+}
+
+/// Whether the part at the span begins with such a character.
+fn begins_as_choice(source: &str, span: Span) -> bool
+    ensures { IsTrue result → BeginsAsChoice source.now span }
+{
+    let Some(text) = span.text(source) else {
+        return false;
+    };
+    match next(text) {
+        Some((c, _)) => is_choice_character(c),
+        None => false,
+    }
+}
+
+/// Whether an item can be left out that begins with a bar, a digit or a letter.
+fn has_needless_choice(source: &str, findings: &[ClassFinding]) -> bool
+    ensures { IsTrue result → HasNeedless Alternatives source.now findings.now }
+{
     for one in findings {
-        if one.problem == ClassProblem::DuplicateCharacters
-            && let Some(item) = one.span.text(source)
-            && !item.starts_with('\\')
+        if matches!(one.problem, ClassProblem::DuplicateCharacters)
+            && begins_as_choice(source, one.span)
         {
             return true;
         }
     }
     false
-}
-
-/// Whether a bar is one of the items, and one can be left out that is no escape.
-fn has_alternatives(source: &str, items: &[ClassItem], findings: &[ClassFinding]) -> bool
-    ensures { IsTrue result → HasBar source.now }
-{
-    has_bar(source, items) && has_plain_needless(source, findings)
 }
 
 /// The first escaped backslash of the items from this position on.
@@ -205,8 +223,8 @@ pub(crate) fn has_hyphen_range(findings: &[ClassFinding]) -> bool {
 }
 
 /// Whether an item can be left out.
-fn has_needless(findings: &[ClassFinding]) -> bool
-    ensures { IsTrue result → HasNeedless findings.now }
+fn has_needless(source: &str, findings: &[ClassFinding]) -> bool
+    ensures { IsTrue result → HasNeedless Word source.now findings.now }
 {
     for one in findings {
         if matches!(one.problem, ClassProblem::DuplicateCharacters) {
@@ -222,10 +240,10 @@ pub(crate) fn class_look(
     class: ClassSource<'_>,
     findings: &[ClassFinding],
 ) -> Result<Option<LookAt>, AllocError>
-    ensures needless { IfOk result (λ o. IfSome o (λ _. HasNeedless findings.now)) }
+    ensures needless { IfOk result (λ o. IfSome o (λ found. HasNeedless found.look class.entry.source.now findings.now)) }
     ensures shows { IfOk result (λ o. IfSome o (λ found. ShowsLook class.entry.source.now found.span found.look)) }
 {
-    if !has_needless(findings) || has_hyphen_range(findings) {
+    if !has_needless(class.source, findings) || has_hyphen_range(findings) {
         return Ok(None);
     }
     let Some(items) = items_of(class)? else {
@@ -240,7 +258,7 @@ pub(crate) fn class_look(
         let look = ClassLook::DoubledBackslashes;
         return Ok(Some(LookAt { span, look }));
     }
-    if has_alternatives(class.source, &items, findings) {
+    if has_bar(class.source, &items) && has_needless_choice(class.source, findings) {
         let look = ClassLook::Alternatives;
         return Ok(Some(LookAt { span, look }));
     }

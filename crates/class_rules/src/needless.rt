@@ -12,6 +12,9 @@ use std::alloc::AllocError;
 /// How many items of a class are reported.
 const MAX_ITEMS: usize = 8;
 
+/// The last of the control characters of ASCII that are beside each other.
+const LAST_CONTROL: char = '\x1F';
+
 /// Whether the class has the same characters without the part at the span.
 fn is_needless(class: ClassSource<'_>, span: Span) -> Result<bool, AllocError>
     ensures { IfOk result (λ b. IsTrue b → IsNeedless class.entry.flags class.entry.casei class.entry.source.now span) }
@@ -38,7 +41,39 @@ fn is_needless(class: ClassSource<'_>, span: Span) -> Result<bool, AllocError>
     Ok(is_within)
 }
 
-/// The spans of items that seem to be needless.
+/// Whether the item is an escape for a control character by its name.
+fn is_named_escape(text: &str) -> bool {
+    matches!(
+        text,
+        r"\a" | r"\b" | r"\e" | r"\f" | r"\n" | r"\r" | r"\t" | r"\v"
+    )
+}
+
+/// Whether the item is a range that ends with the last control character, and contains this one.
+fn is_control_range(item: ClassItem, c: char) -> bool {
+    match item.ends {
+        Some((first, last)) => last == LAST_CONTROL && first <= c,
+        None => false,
+    }
+}
+
+/// Whether the item names a control character that a range of all control characters has, so that it is there for the reader.
+fn is_for_the_reader(source: &str, item: ClassItem, items: &[ClassItem]) -> bool {
+    let Some((c, _)) = item.ends else {
+        return false;
+    };
+    if !is_named_escape(item.span.text(source).unwrap_or("")) {
+        return false;
+    }
+    for range in items {
+        if is_control_range(*range, c) {
+            return true;
+        }
+    }
+    false
+}
+
+/// The spans of items that seem to be needless, in order.
 fn candidates(class: ClassSource<'_>, items: &[ClassItem]) -> Result<Vec<Span>, AllocError> {
     let alloc = class.alloc;
     let mut sets = RangeSets {
@@ -50,11 +85,17 @@ fn candidates(class: ClassSource<'_>, items: &[ClassItem]) -> Result<Vec<Span>, 
         sets.ends.push(sets.ranges.len())?;
     }
     let mut spans = Vec::new(alloc);
-    for index in covered_sets(alloc, &sets)?.iter().take(MAX_ITEMS) {
-        if let Some(item) = items.get(*index) {
+    for index in &covered_sets(alloc, &sets)? {
+        if spans.len() == MAX_ITEMS {
+            break;
+        }
+        if let Some(item) = items.get(*index)
+            && !is_for_the_reader(class.source, *item, items)
+        {
             spans.push(item.span)?;
         }
     }
+    spans.reverse();
     Ok(spans)
 }
 
