@@ -81,6 +81,16 @@ impl<'s, 'a, 'k> Alphabet<'s, 'a, 'k> {
     }
 }
 
+/// The characters that the tree may match, if it may match any. What has no ways of its own is taken to match none.
+pub(crate) fn alphabet_of<'a>(
+    tree: &'a Expr,
+    sets: &mut KnownSets<'a, '_>,
+) -> Result<Option<CharacterSet>, AllocError> {
+    let mut alphabet = Alphabet { sets, set: None };
+    alphabet.add(tree)?;
+    Ok(alphabet.set)
+}
+
 /// Whether the tree may match the empty text. Only trees with ways of their own are looked at.
 #[cycle(can_be_empty)]
 fn can_be_empty(tree: &Expr) -> bool {
@@ -123,10 +133,8 @@ fn piece_of<'a>(tree: &'a Expr, sets: &mut KnownSets<'a, '_>) -> Result<Piece, A
         PartKind::TooLarge => return Ok(Piece::TooLarge),
         PartKind::Choices | PartKind::OneWay => {}
     }
-    let mut alphabet = Alphabet { sets, set: None };
-    alphabet.add(tree)?;
     Ok(Piece::Regular(RegularPiece {
-        alphabet: alphabet.set,
+        alphabet: alphabet_of(tree, sets)?,
         can_be_empty: can_be_empty(tree),
         is_repeat: repeated_part(tree).is_some(),
     }))
