@@ -54,7 +54,9 @@ impl<'s, 'a, 'k> Alphabet<'s, 'a, 'k> {
     fn add(&mut self, tree: &'a Expr) -> Result<(), AllocError> {
         match regular_shape(tree) {
             RegularShape::Character => self.add_node(tree),
-            RegularShape::Group(child) | RegularShape::Repeat { child, .. } => self.add(child),
+            RegularShape::Group(child)
+            | RegularShape::Repeat { child, .. }
+            | RegularShape::Possessive { child, .. } => self.add(child),
             RegularShape::Concat(trees) | RegularShape::Alt(trees) => self.add_all(trees),
             RegularShape::Empty | RegularShape::Passed | RegularShape::Irregular => Ok(()),
         }
@@ -99,6 +101,7 @@ fn can_be_empty(tree: &Expr) -> bool {
         RegularShape::Character | RegularShape::Irregular => false,
         RegularShape::Group(child) => can_be_empty(child),
         RegularShape::Repeat { child, lo, .. } => lo == 0 || can_be_empty(child),
+        RegularShape::Possessive { lo, .. } => lo == 0,
         RegularShape::Concat(trees) => can_all_be_empty(trees),
         RegularShape::Alt(branches) => can_any_be_empty(branches),
     }
