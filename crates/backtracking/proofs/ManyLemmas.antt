@@ -3,7 +3,7 @@ use Rattle.std.proofs.Common.{◌≡◌, ◌≢◌, ℕ, suc, ◌<◌, Bool, tru
 use Rattle.std.proofs.Common.{refl, sym, ap, subst, arith, length-append}
 use Rattle.fancy_grammar.specs.Tree.{Tree, Trees}
 use Rattle.backtracking.specs.ManyWays.{times, chosen, HasManyWays}
-use Rattle.backtracking.specs.TwoWays.{Rest, at, Goes, nothing, passed, one, within, each, branch, turns, GoesAll, no_more, next}
+use Rattle.backtracking.specs.TwoWays.{Rest, at, Goes, nothing, passed, one, within, each, branch, turns, possessive, GoesAll, no_more, next, IsLongest, stops, matches}
 use Rattle.backtracking.specs.TwoWays.{Turns, no_turn, turn, Part, here, later, IsWay, AreTwoWays}
 use Rattle.backtracking.specs.declared.decision.Decision.{Decision}
 
@@ -14,6 +14,10 @@ and_then s r = at (s.decisions ++ r.decisions) (s.text ++ r.text)
 longer : (v w x : List ℕ) → length v < length w → length (v ++ x) < length (w ++ x)
 longer v w x h = omega (arith, h, length-append v x, length-append w x)
 
+more_longest : (unicode : Bool) (t : Tree) (n : ℕ) (w v x : List ℕ) → IsLongest unicode t n w v → IsLongest unicode t n (w ++ x) (v ++ x)
+more_longest unicode t n w v x (stops k) = stops k
+more_longest unicode t n w v x (matches k l) = matches k (more_longest unicode t _ _ v x l)
+
 mutual
   more_goes : (unicode : Bool) (t : Tree) (s u r : Rest) → Goes unicode t s u → Goes unicode t (and_then s r) (and_then u r)
   more_goes unicode t s u r nothing = nothing
@@ -23,6 +27,7 @@ mutual
   more_goes unicode t s u r (each k) = each (more_goes_all unicode _ s u r k)
   more_goes unicode t s u r (branch at_index k) = branch at_index (more_goes unicode _ _ u r k)
   more_goes unicode t s u r (turns k low high) = turns (more_turns unicode _ _ s _ r k) low high
+  more_goes unicode t s u r (possessive k low high) = possessive (more_longest unicode _ _ s.text u.text r.text k) low high
 
   pub more_goes_all : (unicode : Bool) (ts : Trees) (s u r : Rest) → GoesAll unicode ts s u →
       GoesAll unicode ts (and_then s r) (and_then u r)

@@ -1,17 +1,17 @@
 -- Steps of the checker, one node at a time.
-use Rattle.std.proofs.Common.{◌≡◌, ◌≢◌, ℕ, ◌+◌, ◌<◌, ◌≤◌, Bool, List, ◌∷◌, length, drop, get_or, Result, Option}
+use Rattle.std.proofs.Common.{◌≡◌, ◌≢◌, ℕ, suc, ◌+◌, ◌<◌, ◌≤◌, Bool, true, List, ◌∷◌, length, drop, get_or, Result, Option}
 use Rattle.std.proofs.Common.{IfOk, IfSome, Some, refl, sym, ap, subst, ◌∙◌, drop-cons, add-one}
 use Rattle.std.specs.Prelude.{slice_get, option_map}
 use Rattle.std.proofs.lemmas.Option.{IfSome_then, slice_get-map, slice_get_read}
 use Rattle.std.proofs.lemmas.Result.{IfOk-weaker}
-use Rattle.fancy_grammar.specs.Tree.{Tree, Trees, list_of, trees_of, empty, group, concat, alt, repeat}
+use Rattle.fancy_grammar.specs.Tree.{Tree, Trees, list_of, trees_of, empty, group, concat, alt, repeat, atomic_group}
 use Rattle.fancy_syntax.proofs.ChildrenLemmas.{list_of_trees_of}
 use Rattle.fancy_syntax.proofs.PrintLemmas.{left, left_step, left_end}
 use Rattle.fancy_syntax.specs.View.{view, views}
 use Rattle.fancy_syntax.specs.declared.expr.Expr.{Expr}
-use Rattle.backtracking.specs.OneCharacter.{MayMatch}
-use Rattle.backtracking.specs.TwoWays.{Rest, at, Goes, nothing, one, within, each, branch, turns, GoesAll, no_more, next}
-use Rattle.backtracking.specs.TwoWays.{Turns, turn, Part, here, later}
+use Rattle.backtracking.specs.OneCharacter.{MatchesIf, MayMatch, DoesNotMatch}
+use Rattle.backtracking.specs.TwoWays.{Rest, at, Goes, nothing, one, within, each, branch, turns, possessive, GoesAll, no_more, next}
+use Rattle.backtracking.specs.TwoWays.{Turns, turn, Part, here, later, IsLongest, stops, matches}
 use Rattle.backtracking.specs.declared.checker.Remaining.{Remaining}
 use Rattle.backtracking.specs.declared.decision.Decision.{Decision}
 use Rattle.backtracking.specs.declared.decision.Decision.TheVariants.{Branch, Again, Done}
@@ -56,6 +56,34 @@ pub went_branch : (unicode : Bool) (bs : List Expr) (i : ℕ) (b : Expr) (d : De
     Goes unicode (alt (trees_of (views bs))) (at ds w) u
 went_branch unicode bs i b d ds es w u h is below there k =
     decided unicode _ d (Branch i) ds es w u h is (branch (tree_there bs i b below there) k)
+
+-- ---- as many characters as there are
+
+characters_step : (w : List ℕ) (i c : ℕ) → i < length w → c ≡ get_or w i c → drop i w ≡ c ∷ drop (i + 1) w
+characters_step w i c h is =
+    let step : drop i w ≡ get_or w i c ∷ drop (i + 1) w = rw (add-one, drop-cons w i c h) refl in
+    step ∙ ap (λ d. d ∷ drop (i + 1) w) (sym is)
+
+-- what a call said of a character, by what it returned
+pub known : (unicode : Bool) (t : Tree) (c : ℕ) (o : Option Bool) (b d : Bool) → o ≡ Some b → b ≡ d →
+    IfSome o (λ is_in. MatchesIf unicode t c is_in) → MatchesIf unicode t c d
+known unicode t c o b d is e k = subst (MatchesIf unicode t c) e (at_some (MatchesIf unicode t c) o b is k)
+
+pub longest_stops : (unicode : Bool) (t : Tree) (w : List ℕ) (i c : ℕ) → i < length w → c ≡ get_or w i c → DoesNotMatch unicode t c →
+    IsLongest unicode t 0 (drop i w) (drop i w)
+longest_stops unicode t w i c h is k = subst (λ x. IsLongest unicode t 0 x x) (sym (characters_step w i c h is)) (stops k)
+
+-- one more before those from a later index on
+pub longest_more : (unicode : Bool) (t : Tree) (w v : List ℕ) (i c n m : ℕ) → i < length w → c ≡ get_or w i c → MayMatch unicode t c →
+    m ≡ suc n → IsLongest unicode t n (drop (i + 1) w) v → IsLongest unicode t m (drop i w) v
+longest_more unicode t w v i c n m h is k count l =
+    subst (λ p. IsLongest unicode t p (drop i w) v) (sym count)
+    (subst (λ x. IsLongest unicode t (suc n) x v) (sym (characters_step w i c h is)) (matches k l))
+
+pub went_possessive : (unicode : Bool) (t : Tree) (n lo hi : ℕ) (ds : List Decision) (w v : List ℕ) → v ≡ drop n w →
+    IsLongest unicode t n w (drop n w) → lo ≤ n → n ≤ hi → Goes unicode (atomic_group (repeat t lo hi true)) (at ds w) (at ds v)
+went_possessive unicode t n lo hi ds w v is k low high =
+    subst (λ x. Goes unicode (atomic_group (repeat t lo hi true)) (at ds w) (at ds x)) (sym is) (possessive k low high)
 
 -- ---- turns
 

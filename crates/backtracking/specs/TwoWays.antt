@@ -1,9 +1,10 @@
 -- The ways in which a part of a pattern matches a text, decision by decision. Literals, classes, dots, groups,
--- concatenations, alternations and repeats have ways. Look-around, assertions, references and conditionals are passed: they
--- are taken as empty, whether they hold or not. `unicode` says whether classes are read with Unicode.
+-- concatenations, alternations and repeats have ways. An atomic group has one if it repeats one character: the longest. Look-around,
+-- assertions, references and conditionals are passed: they are taken as empty, whether they hold or not. `unicode` says whether
+-- classes are read with Unicode.
 use Rattle.std.specs.Prelude.{◌≡◌, ◌≢◌, ℕ, Bool, true, suc, ◌<◌, ◌≤◌, List, [], ◌∷◌, length, slice_get, Some}
-use Rattle.fancy_grammar.specs.Tree.{Tree, Trees, no_trees, more_trees, list_of, empty, group, concat, alt, repeat}
-use Rattle.backtracking.specs.OneCharacter.{MayMatch}
+use Rattle.fancy_grammar.specs.Tree.{Tree, Trees, no_trees, more_trees, list_of, empty, group, concat, alt, repeat, atomic_group}
+use Rattle.backtracking.specs.OneCharacter.{MayMatch, DoesNotMatch}
 use Rattle.backtracking.specs.Passed.{is_passed}
 use Rattle.backtracking.specs.declared.decision.Decision.{Decision}
 use Rattle.backtracking.specs.declared.decision.Decision.TheVariants.{Branch, Again, Done}
@@ -15,6 +16,11 @@ pub record Rest : Type 0 where
 
 abbrev pub at : List Decision → List ℕ → Rest
 at ds w = record { decisions = ds; text = w }
+
+-- IsLongest unicode t n w v: the tree matches the first n characters of w, but not the next one, and v is what remains.
+pub data IsLongest (unicode : Bool) (t : Tree) : ℕ → List ℕ → List ℕ → Type 0 where
+  stops : {c w : _} → DoesNotMatch unicode t c → IsLongest unicode t 0 (c ∷ w) (c ∷ w)
+  matches : {n c w v : _} → MayMatch unicode t c → IsLongest unicode t n w v → IsLongest unicode t (suc n) (c ∷ w) v
 
 mutual
   -- Goes unicode t s u: the tree takes the first decisions and matches the first characters of s, and u is what remains.
@@ -28,6 +34,8 @@ mutual
         Goes unicode (alt ts) (at (Branch i ∷ ds) w) u
     turns : {unicode t n lo hi greedy s ds w : _} → Turns unicode t n s (at (Done ∷ ds) w) → lo ≤ n → n ≤ hi →
         Goes unicode (repeat t lo hi greedy) s (at ds w)
+    possessive : {unicode t n lo hi ds w v : _} → IsLongest unicode t n w v → lo ≤ n → n ≤ hi →
+        Goes unicode (atomic_group (repeat t lo hi true)) (at ds w) (at ds v)
 
   -- the trees one after another
   pub data GoesAll : Bool → Trees → Rest → Rest → Type 0 where

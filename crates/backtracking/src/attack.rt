@@ -1,6 +1,8 @@
 //! Texts on which an engine tries all ways through a repeat.
+use crate::common::some_other;
 use crate::growth::{Growth, RepeatedText, grows};
 use crate::known_sets::{ClassSets, KnownSets};
+use crate::pieces::alphabet_of;
 use crate::program::{Program, program_of};
 use crate::repeats::SMALL_LIMIT;
 use crate::sample::Sample;
@@ -19,7 +21,7 @@ const MOST_TRIALS: usize = 20_000;
 /// The most steps of searches for a pattern. A repeat takes at most half of those that are left.
 const MOST_STEPS: usize = 4_000_000;
 
-/// What may follow the repeated word, each in its turn.
+/// What may follow the repeated word, each in its turn, before what is made for the target.
 static ENDINGS: [&str; 32] = [
     "!",
     "g",
@@ -128,6 +130,23 @@ impl<'a> Target<'a> {
             Target::Sequence { trees, last, .. } => {
                 trees.get(last.saturating_add(1)..).unwrap_or(&[])
             }
+        }
+    }
+
+    /// Its first repeat.
+    fn first(self) -> Option<&'a Expr> {
+        match self {
+            Target::Repeat(tree) => Some(tree),
+            Target::Sequence { trees, first, .. } => trees.get(first),
+        }
+    }
+
+    /// What may match a character that its first repeat does not match: its last one, or the tree that follows in what is
+    /// around a repeat.
+    fn next(self, around: &[Enclosing<'a>]) -> Option<&'a Expr> {
+        match self {
+            Target::Repeat(_) => next_around(around),
+            Target::Sequence { trees, last, .. } => trees.get(last),
         }
     }
 
@@ -290,20 +309,20 @@ fn lead_to<'a>(
     }))
 }
 
-/// Whether something follows in what is around a node.
-fn is_followed(around: &[Enclosing<'_>]) -> bool {
+/// The tree that follows first in what is around a node.
+fn next_around<'a>(around: &[Enclosing<'a>]) -> Option<&'a Expr> {
     for one in around.iter().rev() {
         match one {
             Enclosing::Group | Enclosing::Repeat { .. } => {}
-            Enclosing::Atomic => return false,
+            Enclosing::Atomic => return None,
             Enclosing::Concat { trees, index } => {
-                if index.saturating_add(1) < trees.len() {
-                    return true;
+                if let Some(next) = trees.get(index.saturating_add(1)) {
+                    return Some(next);
                 }
             }
         }
     }
-    false
+    None
 }
 
 /// Whether what follows the target fails after each position that the target leads to from the start.
@@ -333,62 +352,83 @@ fn fails_after<'a>(
     Ok(!is_any(&now))
 }
 
-/// What to put after the text, so that what follows the target fails; `None` if nothing was found.
-fn find_ending<'a>(
-    alloc: Global,
-    target: Target<'a>,
-    start: usize,
-    text: &mut Vec<char>,
-    surroundings: &mut Surroundings<'a, '_>,
-) -> Result<Option<Vec<char>>, AllocError> {
-    let end = text.len();
-    for ending in ENDINGS.iter() {
-        text.truncate(end);
-        for c in ending.chars() {
-            text.push(c)?;
-        }
-        let mut trial = Trial::new(alloc, text, &mut surroundings.sets);
-        let fails = fails_after(&mut trial, target, start, &surroundings.around)?;
-        let trials = trial.count();
-        surroundings.trials = surroundings.trials.saturating_add(trials);
-        if fails {
-            let mut after = Vec::new(alloc);
-            after.extend_from_slice(text.get(end..).unwrap_or(&[]))?;
-            return Ok(Some(after));
-        }
-        if surroundings.trials > MOST_TRIALS {
-            break;
-        }
+/// Adds a character that the tree does not match, if it may match any and there is one.
+fn add_other<'a>(
+    tree: &'a Expr,
+    sets: &mut KnownSets<'a, '_>,
+    ending: &mut Vec<char>,
+) -> Result<(), AllocError> {
+    if let Some(set) = alphabet_of(tree, sets)?
+        && let Some(c) = some_other(&set)
+    {
+        ending.push(c)?;
     }
-    Ok(None)
+    Ok(())
 }
 
-/// What to put after the word, so that a search takes a number of steps that grows so; `None` if nothing was found.
-fn find_slow_ending(
+/// An ending that is made for the target: a character that its first repeat does not match, and one that what may match
+/// that, the last repeat or what follows, does not match.
+fn made_ending<'a>(
     alloc: Global,
-    before: &[char],
-    word: &[char],
-    growth: Growth,
-    surroundings: &mut Surroundings<'_, '_>,
-) -> Result<Option<Vec<char>>, AllocError> {
-    for ending in ENDINGS.iter() {
-        if surroundings.is_exhausted() {
-            break;
-        }
-        let mut after = Vec::new(alloc);
-        for c in ending.chars() {
-            after.push(c)?;
-        }
-        let text = RepeatedText {
-            before,
-            word,
-            after: &after,
-        };
-        if surroundings.grows(alloc, text, growth)? {
-            return Ok(Some(after));
-        }
+    target: Target<'a>,
+    surroundings: &mut Surroundings<'a, '_>,
+) -> Result<Vec<char>, AllocError> {
+    let mut ending = Vec::new(alloc);
+    if let Some(first) = target.first() {
+        add_other(first, &mut surroundings.sets, &mut ending)?;
     }
-    Ok(None)
+    if let Some(next) = target.next(&surroundings.around) {
+        add_other(next, &mut surroundings.sets, &mut ending)?;
+    }
+    Ok(ending)
+}
+
+/// The ending at the index, which is the one that is made for the target after those for all.
+fn ending_at<'a>(
+    alloc: Global,
+    index: usize,
+    target: Target<'a>,
+    surroundings: &mut Surroundings<'a, '_>,
+) -> Result<Vec<char>, AllocError> {
+    let Some(text) = ENDINGS.get(index) else {
+        return made_ending(alloc, target, surroundings);
+    };
+    let mut ending = Vec::new(alloc);
+    for c in text.chars() {
+        ending.push(c)?;
+    }
+    Ok(ending)
+}
+
+/// What is tried for a target: a text, and what leads over it from a position.
+#[derive(Drop)]
+struct Tried<'a> {
+    target: Target<'a>,
+    start: usize,
+    text: Vec<char>,
+}
+
+/// What is tried for the target. Its concatenation starts after the text `lead`, if one was found.
+fn tried_for<'a>(
+    alloc: Global,
+    target: Target<'a>,
+    lead: Option<&Lead>,
+    word: &[char],
+) -> Result<Tried<'a>, AllocError> {
+    let mut tried = Tried {
+        target,
+        start: 0,
+        text: Vec::new(alloc),
+    };
+    if let Some(lead) = lead {
+        tried.text.extend_from_slice(&lead.text)?;
+        tried.target = target.from_start();
+        tried.start = lead.start;
+    }
+    for _ in 0..REPETITIONS {
+        tried.text.extend_from_slice(word)?;
+    }
+    Ok(tried)
 }
 
 /// What to put after the word, so that what follows the target fails; `None` if nothing was found. The target's
@@ -400,18 +440,49 @@ fn find_failing_ending<'a>(
     word: &[char],
     surroundings: &mut Surroundings<'a, '_>,
 ) -> Result<Option<Vec<char>>, AllocError> {
-    let mut text = Vec::new(alloc);
-    let mut tried = target;
-    let mut start = 0usize;
-    if let Some(lead) = lead {
-        text.extend_from_slice(&lead.text)?;
-        tried = target.from_start();
-        start = lead.start;
+    let mut tried = tried_for(alloc, target, lead, word)?;
+    let end = tried.text.len();
+    for index in 0..=ENDINGS.len() {
+        let ending = ending_at(alloc, index, target, surroundings)?;
+        tried.text.truncate(end);
+        tried.text.extend_from_slice(&ending)?;
+        let mut trial = Trial::new(alloc, &tried.text, &mut surroundings.sets);
+        let fails = fails_after(&mut trial, tried.target, tried.start, &surroundings.around)?;
+        let trials = trial.count();
+        surroundings.trials = surroundings.trials.saturating_add(trials);
+        if fails {
+            return Ok(Some(ending));
+        }
+        if surroundings.trials > MOST_TRIALS {
+            break;
+        }
     }
-    for _ in 0..REPETITIONS {
-        text.extend_from_slice(word)?;
+    Ok(None)
+}
+
+/// What to put after the word, so that a search takes a number of steps that grows so; `None` if nothing was found.
+fn find_slow_ending<'a>(
+    alloc: Global,
+    target: Target<'a>,
+    before: &[char],
+    word: &[char],
+    surroundings: &mut Surroundings<'a, '_>,
+) -> Result<Option<Vec<char>>, AllocError> {
+    for index in 0..=ENDINGS.len() {
+        if surroundings.is_exhausted() {
+            break;
+        }
+        let after = ending_at(alloc, index, target, surroundings)?;
+        let text = RepeatedText {
+            before,
+            word,
+            after: &after,
+        };
+        if surroundings.grows(alloc, text, target.growth())? {
+            return Ok(Some(after));
+        }
     }
-    find_ending(alloc, tried, start, &mut text, surroundings)
+    Ok(None)
 }
 
 /// What to put around the word, so that an engine tries all ways through the target; `None` if nothing was found. If the
@@ -422,14 +493,14 @@ pub(crate) fn find_attack<'a>(
     word: &[char],
     surroundings: &mut Surroundings<'a, '_>,
 ) -> Result<Option<Attack>, AllocError> {
-    let is_last = target.after().is_empty() && !is_followed(&surroundings.around);
+    let is_last = target.after().is_empty() && next_around(&surroundings.around).is_none();
     if is_last && !target.needs_turns() {
         return Ok(None);
     }
     let lead = lead_to(alloc, target, surroundings)?;
     let after = match &lead {
         Some(lead) if surroundings.is_tried(alloc)? => {
-            find_slow_ending(alloc, &lead.text, word, target.growth(), surroundings)?
+            find_slow_ending(alloc, target, &lead.text, word, surroundings)?
         }
         Some(_) | None => { find_failing_ending(alloc, target, lead.as_ref(), word, surroundings)? }
     };

@@ -42,6 +42,10 @@ pub(crate) enum Action {
     Match { position: usize },
     /// Takes one of these decisions.
     Decide(Vec<Exit>),
+    /// Goes on at any of these steps.
+    Fork(Vec<usize>),
+    /// Ends a possessive repeat of a character: no character of the set at the index follows.
+    EndPossessive { set: usize, next: usize },
     /// Ends a turn that began with a decision at `start`.
     EndTurn { start: usize, next: usize },
 }
@@ -180,6 +184,9 @@ impl Automaton {
             RegularShape::Character => self.add_position(sets, tree, next),
             RegularShape::Group(child) => self.add_tree(sets, child, next),
             RegularShape::Repeat { child, lo, hi } => self.add_repeat(sets, child, lo, hi, next),
+            RegularShape::Possessive { child, lo, hi } => {
+                self.add_possessive(sets, child, lo, hi, next)
+            }
             RegularShape::Concat(trees) => self.add_all(sets, trees, next),
             RegularShape::Alt(branches) => self.add_branches(sets, branches, next),
             RegularShape::Irregular => Err(NotBuilt::Irregular),
@@ -267,6 +274,48 @@ impl Automaton {
         Ok(after)
     }
 
+    /// Adds a possessive repeat of a node that matches one character: a loop if it has no limit, and a copy of the node for each
+    /// other turn.
+    fn add_possessive<'a>(
+        &mut self,
+        sets: &mut KnownSets<'a, '_>,
+        tree: &'a Expr,
+        lo: usize,
+        hi: usize,
+        next: usize,
+    ) -> Result<usize, NotBuilt> {
+        let set = self.set_of(sets, tree)?;
+        let end = self.add(Action::EndPossessive { set, next })?;
+        let mut after = end;
+        let mut copies = hi;
+        if hi == usize::MAX {
+            after = self.add(Action::Fork(Vec::new(self.alloc)))?;
+            let turn = self.add_position(sets, tree, after)?;
+            self.set_fork(after, turn, end)?;
+            copies = lo;
+        }
+        for i in (0..copies).rev() {
+            let turn = self.add_position(sets, tree, after)?;
+            after = turn;
+            if i >= lo {
+                after = self.add(Action::Fork(Vec::new(self.alloc)))?;
+                self.set_fork(after, turn, end)?;
+            }
+        }
+        Ok(after)
+    }
+
+    /// Sets the steps at a fork.
+    fn set_fork(&mut self, at: usize, turn: usize, end: usize) -> Result<(), AllocError> {
+        let mut nexts = Vec::new(self.alloc);
+        nexts.push(turn)?;
+        nexts.push(end)?;
+        if let Some(step) = self.steps.get_mut(at) {
+            *step = Action::Fork(nexts);
+        }
+        Ok(())
+    }
+
     /// Sets the decision at a step where the last turn has ended.
     fn set_end(&mut self, at: usize, next: usize) -> Result<(), AllocError> {
         let mut exits = Vec::new(self.alloc);
@@ -280,7 +329,7 @@ impl Automaton {
         Ok(())
     }
 
-    /// Adds a node that matches one character. It is irregular if its characters are not known.
+    /// Adds a node that matches one character.
     fn add_position<'a>(
         &mut self,
         sets: &mut KnownSets<'a, '_>,
@@ -290,13 +339,22 @@ impl Automaton {
         if self.positions.len() > MOST_POSITIONS {
             return Err(NotBuilt::TooLarge);
         }
-        let Some(set) = sets.of(tree)? else {
-            return Err(NotBuilt::Irregular);
-        };
-        let set = self.add_set(set)?;
+        let set = self.set_of(sets, tree)?;
         let position = self.positions.len();
         self.positions.push(Position { set, next })?;
         Ok(self.add(Action::Match { position })?)
+    }
+
+    /// The index of the set of a node that matches one character. It is irregular if its characters are not known.
+    fn set_of<'a>(
+        &mut self,
+        sets: &mut KnownSets<'a, '_>,
+        tree: &'a Expr,
+    ) -> Result<usize, NotBuilt> {
+        let Some(set) = sets.of(tree)? else {
+            return Err(NotBuilt::Irregular);
+        };
+        Ok(self.add_set(set)?)
     }
 
     /// The index of the set, a copy of which is added if there is no equal one.

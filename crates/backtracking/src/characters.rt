@@ -1,7 +1,7 @@
 //! What a node that matches one character may match.
-ghost use Rattle.std.specs.Prelude.{◌≡◌, IfOk, IsTrue};
+ghost use Rattle.std.specs.Prelude.{◌≡◌, IfOk, IfSome};
 ghost use Rattle.fancy_syntax.specs.View.{view};
-ghost use Rattle.backtracking.specs.OneCharacter.{MayMatch, is_character};
+ghost use Rattle.backtracking.specs.OneCharacter.{MatchesIf, is_character};
 
 use class_meaning::{ClassMeaning, characters_of};
 use fancy_syntax::expr::Expr;
@@ -17,17 +17,17 @@ pub(crate) fn is_one_character(node: &Expr) -> bool
     )
 }
 
-/// Whether the node matches one character, and may match this one.
+/// Whether the node, which matches one character, may match this one; `None` if it does not match just one.
 pub(crate) fn may_match(
     alloc: Global,
     tree: &Expr,
     unicode: bool,
     c: char,
-) -> Result<bool, AllocError>
-    ensures { IfOk result (λ b. IsTrue b → MayMatch unicode (view tree.now) c) }
+) -> Result<Option<bool>, AllocError>
+    ensures { IfOk result (λ o. IfSome o (λ is_in. MatchesIf unicode (view tree.now) c is_in)) }
 {
     match characters_of(alloc, tree, unicode)? {
-        ClassMeaning::Characters(set) => Ok(set.contains(c)),
-        ClassMeaning::Refused(_) | ClassMeaning::NotOneCharacter => Ok(false),
+        ClassMeaning::Characters(set) => Ok(Some(set.contains(c))),
+        ClassMeaning::Refused(_) | ClassMeaning::NotOneCharacter => Ok(None),
     }
 }

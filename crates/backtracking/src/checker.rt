@@ -1,8 +1,8 @@
 //! Whether decisions lead through a part of a pattern over a text.
-ghost use Rattle.std.specs.Prelude.{◌≡◌, ◌≤◌, ◌↔◌, Bool, IfOk, IfSome, IsTrue};
-ghost use Rattle.fancy_syntax.specs.Tree.{trees_of, alt, repeat};
+ghost use Rattle.std.specs.Prelude.{◌≡◌, ◌≤◌, ◌↔◌, Bool, true, IfOk, IfSome, IsTrue, drop};
+ghost use Rattle.fancy_syntax.specs.Tree.{trees_of, alt, repeat, atomic_group};
 ghost use Rattle.fancy_syntax.specs.View.{view, views};
-ghost use Rattle.backtracking.specs.TwoWays.{Goes, GoesAll, Turns, Part, IsWay, AreTwoWays};
+ghost use Rattle.backtracking.specs.TwoWays.{Goes, GoesAll, Turns, IsLongest, Part, IsWay, AreTwoWays};
 ghost use Rattle.backtracking.specs.Remains.{rest_of};
 
 use crate::characters::may_match;
@@ -37,9 +37,56 @@ fn go_over_character<'a>(
     let Some((c, text)) = from.text.split_first() else {
         return Ok(None);
     };
-    if !may_match(alloc, tree, unicode, *c)? {
+    let Some(true) = may_match(alloc, tree, unicode, *c)? else {
+        return Ok(None);
+    };
+    Ok(Some(Remaining {
+        decisions: from.decisions,
+        text,
+    }))
+}
+
+/// How many characters of the text the tree matches one after another, up to one that it does not match. None if it is not
+/// known where they end.
+fn count_matched(
+    alloc: Global,
+    tree: &Expr,
+    unicode: bool,
+    text: &[char],
+) -> Result<Option<usize>, AllocError>
+    ensures { IfOk result (λ o. IfSome o (λ n. IsLongest unicode (view tree.now) n text.now (drop n text.now))) }
+{
+    for (count, c) in text.iter().enumerate() {
+        match may_match(alloc, tree, unicode, *c)? {
+            Some(true) => {}
+            Some(false) => return Ok(Some(count)),
+            None => return Ok(None),
+        }
+    }
+    Ok(None)
+}
+
+/// What remains after a possessive repeat of the tree, from `lo` to `hi` times.
+fn go_over_possessive<'a>(
+    alloc: Global,
+    tree: &Expr,
+    unicode: bool,
+    lo: usize,
+    hi: usize,
+    from: Remaining<'a>,
+) -> Result<Option<Remaining<'a>>, AllocError>
+    ensures { IfOk result (λ o. IfSome o (λ u.
+        Goes unicode (atomic_group (repeat (view tree.now) lo hi true)) (rest_of from.entry) (rest_of u))) }
+{
+    let Some(count) = count_matched(alloc, tree, unicode, from.text)? else {
+        return Ok(None);
+    };
+    if count < lo || count > hi {
         return Ok(None);
     }
+    let Some(text) = from.text.get(count..) else {
+        return Ok(None);
+    };
     Ok(Some(Remaining {
         decisions: from.decisions,
         text,
@@ -47,7 +94,7 @@ fn go_over_character<'a>(
 }
 
 /// What remains after the tree has gone over its decisions and its characters, if they lead through it. Look-around,
-/// references and conditionals are passed; calls and atomic groups have no ways of their own.
+/// references and conditionals are passed; calls and other atomic groups than possessive repeats of a character have no ways.
 #[cycle(go_over)]
 fn go_over<'a>(
     alloc: Global,
@@ -64,6 +111,9 @@ fn go_over<'a>(
         RegularShape::Group(child) => go_over(alloc, child, unicode, from),
         RegularShape::Repeat { child, lo, hi } => {
             go_over_repeat(alloc, child, unicode, lo, hi, from)
+        }
+        RegularShape::Possessive { child, lo, hi } => {
+            go_over_possessive(alloc, child, unicode, lo, hi, from)
         }
         RegularShape::Concat(trees) => go_over_all(alloc, trees, unicode, from),
         RegularShape::Alt(branches) => go_over_branch(alloc, branches, unicode, from),

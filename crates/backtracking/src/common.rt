@@ -60,6 +60,24 @@ pub(crate) fn some_common(sets: &[&CharacterSet]) -> Option<char> {
     char::from_u32(first)
 }
 
+/// The first code point that is not in the set.
+fn first_other(set: &CharacterSet) -> u32 {
+    match set.ranges().first() {
+        Some((0, end)) => end.saturating_add(1),
+        Some(_) | None => 0,
+    }
+}
+
+/// A character that is not in the set.
+pub(crate) fn some_other(set: &CharacterSet) -> Option<char> {
+    for c in FIRST_CHARACTERS.chars() {
+        if !set.contains(c) {
+            return Some(c);
+        }
+    }
+    char::from_u32(first_other(set))
+}
+
 /// A character of the set.
 pub(crate) fn some_character(set: &CharacterSet) -> Option<char> {
     some_common(&[set])

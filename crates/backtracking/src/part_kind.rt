@@ -38,7 +38,7 @@ impl PartFacts {
         }
         match regular_shape(tree) {
             RegularShape::Empty | RegularShape::Character | RegularShape::Passed => {}
-            RegularShape::Group(child) => self.add(child),
+            RegularShape::Group(child) | RegularShape::Possessive { child, .. } => self.add(child),
             RegularShape::Repeat { child, lo, hi } => {
                 self.has_choice = self.has_choice || lo < hi;
                 self.add(child);

@@ -54,7 +54,9 @@ impl<'s, 'a, 'k> Alphabet<'s, 'a, 'k> {
     fn add(&mut self, tree: &'a Expr) -> Result<(), AllocError> {
         match regular_shape(tree) {
             RegularShape::Character => self.add_node(tree),
-            RegularShape::Group(child) | RegularShape::Repeat { child, .. } => self.add(child),
+            RegularShape::Group(child)
+            | RegularShape::Repeat { child, .. }
+            | RegularShape::Possessive { child, .. } => self.add(child),
             RegularShape::Concat(trees) | RegularShape::Alt(trees) => self.add_all(trees),
             RegularShape::Empty | RegularShape::Passed | RegularShape::Irregular => Ok(()),
         }
@@ -81,6 +83,16 @@ impl<'s, 'a, 'k> Alphabet<'s, 'a, 'k> {
     }
 }
 
+/// The characters that the tree may match, if it may match any. What has no ways of its own is taken to match none.
+pub(crate) fn alphabet_of<'a>(
+    tree: &'a Expr,
+    sets: &mut KnownSets<'a, '_>,
+) -> Result<Option<CharacterSet>, AllocError> {
+    let mut alphabet = Alphabet { sets, set: None };
+    alphabet.add(tree)?;
+    Ok(alphabet.set)
+}
+
 /// Whether the tree may match the empty text. Only trees with ways of their own are looked at.
 #[cycle(can_be_empty)]
 fn can_be_empty(tree: &Expr) -> bool {
@@ -89,6 +101,7 @@ fn can_be_empty(tree: &Expr) -> bool {
         RegularShape::Character | RegularShape::Irregular => false,
         RegularShape::Group(child) => can_be_empty(child),
         RegularShape::Repeat { child, lo, .. } => lo == 0 || can_be_empty(child),
+        RegularShape::Possessive { lo, .. } => lo == 0,
         RegularShape::Concat(trees) => can_all_be_empty(trees),
         RegularShape::Alt(branches) => can_any_be_empty(branches),
     }
@@ -123,10 +136,8 @@ fn piece_of<'a>(tree: &'a Expr, sets: &mut KnownSets<'a, '_>) -> Result<Piece, A
         PartKind::TooLarge => return Ok(Piece::TooLarge),
         PartKind::Choices | PartKind::OneWay => {}
     }
-    let mut alphabet = Alphabet { sets, set: None };
-    alphabet.add(tree)?;
     Ok(Piece::Regular(RegularPiece {
-        alphabet: alphabet.set,
+        alphabet: alphabet_of(tree, sets)?,
         can_be_empty: can_be_empty(tree),
         is_repeat: repeated_part(tree).is_some(),
     }))

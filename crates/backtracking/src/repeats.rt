@@ -55,9 +55,12 @@ enum Looked {
     Unknown,
 }
 
-/// Whether the node has something below it that a search passes.
+/// Whether the node has something below it that a search passes, or is an atomic group, after which a search may miss a way.
 fn hides_nodes(node: &Expr) -> bool {
-    matches!(node, Expr::LookAround(..) | Expr::Conditional { .. })
+    matches!(
+        node,
+        Expr::LookAround(..) | Expr::Conditional { .. } | Expr::AtomicGroup(_)
+    )
 }
 
 /// What has come of a look at a repeat of the tree that is not slow.

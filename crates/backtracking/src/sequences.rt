@@ -73,6 +73,7 @@ pub(crate) fn repeated_part(tree: &Expr) -> Option<&Expr>
         RegularShape::Empty
         | RegularShape::Character
         | RegularShape::Passed
+        | RegularShape::Possessive { .. }
         | RegularShape::Concat(_)
         | RegularShape::Alt(_)
         | RegularShape::Irregular => None,

@@ -25,6 +25,11 @@ go_over-returns-in-Repeat t c =
     weaker _ _ _ (λ u k. subst (λ t. Goes c.args.unicode t (rest_of c.args.from) (rest_of u)) (sym node) (k greedy))
     c.go_over_repeat.ensures
 
+pub go_over-returns-in-Possessive : goal.go_over-returns-in-Possessive
+go_over-returns-in-Possessive t c =
+    weaker _ _ _ (λ u k. subst (λ t. Goes c.args.unicode t (rest_of c.args.from) (rest_of u)) (sym c.in-Possessive.ensures.0) k)
+    c.go_over_possessive.ensures
+
 pub go_over-returns-in-Concat : goal.go_over-returns-in-Concat
 go_over-returns-in-Concat t c =
     weaker _ _ _ (λ u k. went_concat c.args.unicode (view c.args.tree.now) _ (rest_of c.args.from) (rest_of u)
