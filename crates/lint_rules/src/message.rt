@@ -1,5 +1,5 @@
 //! The messages of reports, which name the parts of the pattern that they are about.
-use crate::problem::{Problem, Total};
+use crate::problem::{Others, Problem, Total};
 use crate::rule::Rule;
 use class_meaning::ClassErrorKind;
 use class_rules::class_problem::ClassProblem;
@@ -23,6 +23,42 @@ impl fmt::Display for Part<'_> {
     }
 }
 
+/// The parts of a pattern that have a problem, as in a sentence: the first ones, and how many there are more.
+#[derive(Clone, Copy)]
+struct Parts<'a> {
+    first: &'a str,
+    others: Others,
+    pattern: &'a str,
+}
+
+impl Parts<'_> {
+    /// The verb after one of them, or after several.
+    fn verb(self) -> &'static str {
+        match self.others.named {
+            [None, ..] => "is",
+            [Some(_), ..] => "are",
+        }
+    }
+}
+
+impl fmt::Display for Parts<'_> {
+    fn fmt<W: fmt::Write>(&self, f: &mut fmt::Formatter<W>) -> fmt::Result {
+        write!(f, "{}", Part(self.first))?;
+        let Others { named, more } = self.others;
+        let count = named.iter().flatten().count();
+        for (index, span) in named.iter().flatten().enumerate() {
+            let is_last = more == 0 && index.saturating_add(1) == count;
+            let before = if is_last { " and " } else { ", " };
+            let text = span.text(self.pattern).unwrap_or("");
+            write!(f, "{before}{}", Part(text))?;
+        }
+        if more > 0 {
+            write!(f, " and {more} more")?;
+        }
+        Ok(())
+    }
+}
+
 /// The message of a report.
 #[derive(Clone, Copy)]
 pub struct Message<'a> {
@@ -31,6 +67,9 @@ pub struct Message<'a> {
     pub(crate) text: &'a str,
     /// The branch or the group that the message names.
     pub(crate) related: &'a str,
+    /// The parts after it with the same problem.
+    pub(crate) others: Others,
+    pub(crate) pattern: &'a str,
 }
 
 /// The text without the article that it begins with.
@@ -41,6 +80,17 @@ fn without_article(text: &str) -> &str {
 /// Whether the look-around with this text is a negative one.
 fn is_negative(text: &str) -> bool {
     text.starts_with("(?!") || text.starts_with("(?<!")
+}
+
+impl<'a> Message<'a> {
+    /// The parts that have the problem.
+    fn parts(&self) -> Parts<'a> {
+        Parts {
+            first: self.text,
+            others: self.others,
+            pattern: self.pattern,
+        }
+    }
 }
 
 impl Message<'_> {
@@ -77,6 +127,7 @@ impl Message<'_> {
         problem: ClassProblem,
     ) -> fmt::Result {
         let part = Part(self.text);
+        let parts = self.parts();
         match problem {
             ClassProblem::Invalid(ClassErrorKind::ClassRangeLiteral) => f.write_str(
                 r"fancy-regex refuses a hyphen beside a set, as in `\w-.`: write `\-`",
@@ -87,16 +138,17 @@ impl Message<'_> {
                 kind.message()
             ),
             ClassProblem::Empty => write!(f, "{part} contains no character"),
-            ClassProblem::DuplicateCharacters => {
-                write!(f, "{part} is in the rest of the class already")
-            }
-            ClassProblem::SubsumedBranch { other, .. } => {
-                write!(
-                    f,
-                    "{part} is part of {} (branch {other})",
-                    Part(self.related)
-                )
-            }
+            ClassProblem::DuplicateCharacters => write!(
+                f,
+                "{parts} {} in the rest of the class already",
+                parts.verb()
+            ),
+            ClassProblem::SubsumedBranch { other, .. } => write!(
+                f,
+                "{parts} {} part of {} (branch {other})",
+                parts.verb(),
+                Part(self.related)
+            ),
             ClassProblem::SuspiciousClass(look) => f.write_str(look.message()),
             ClassProblem::SuspiciousRange { first, last } => {
                 write!(f, "range from {} to {}", first.name(), last.name())
@@ -116,11 +168,11 @@ impl Message<'_> {
         f: &mut fmt::Formatter<W>,
         earlier: usize,
     ) -> fmt::Result {
-        let (part, first) = (Part(self.text), Part(self.related));
+        let (parts, first) = (self.parts(), Part(self.related));
         if self.related.is_empty() {
-            return write!(f, "the empty branch {earlier} matches before {part}");
+            return write!(f, "the empty branch {earlier} matches before {parts}");
         }
-        write!(f, "{first} (branch {earlier}) matches before {part}")
+        write!(f, "{first} (branch {earlier}) matches before {parts}")
     }
 }
 
@@ -180,7 +232,10 @@ impl fmt::Display for Message<'_> {
                 write!(f, "polynomial backtracking of degree {degree} on {text}")
             }
             Problem::UselessFlag { letter } => write!(f, "flag {letter} is set already"),
-            Problem::CharactersInEscape { escape } => write!(f, r"{part} is part of `\{escape}`"),
+            Problem::CharactersInEscape { escape } => {
+                let parts = self.parts();
+                write!(f, r"{parts} {} part of `\{escape}`", parts.verb())
+            }
             Problem::Class(problem) => self.write_class(f, problem),
             Problem::DialectDifference { difference } => write!(f, "{difference}"),
         }

@@ -115,6 +115,34 @@ pub fn is_of_digits(text: &str) -> bool {
     matches!(text.as_bytes(), [b'\\', b'0'..=b'9', ..])
 }
 
+/// Further parts of a pattern that have the problem of another one, from which they differ in the span alone.
+#[derive(Clone, Copy)]
+pub struct Others {
+    /// The first of them, which the message names.
+    pub named: [Option<Span>; 3],
+    /// How many follow these.
+    pub more: usize,
+}
+
+impl Others {
+    /// No part.
+    pub const NONE: Others = Others {
+        named: [None, None, None],
+        more: 0,
+    };
+
+    /// Adds a part after the others.
+    pub fn add(&mut self, span: Span) {
+        for one in self.named.iter_mut() {
+            if one.is_none() {
+                *one = Some(span);
+                return;
+            }
+        }
+        self.more = self.more.saturating_add(1);
+    }
+}
+
 /// A problem, and the part of the pattern that has it.
 #[derive(Clone, Copy)]
 pub struct Found<'a> {
@@ -122,6 +150,8 @@ pub struct Found<'a> {
     pub problem: Problem<'a>,
     /// The branch or the group that the message names.
     pub related: Option<Related>,
+    /// The parts after it with the same problem.
+    pub others: Others,
 }
 
 /// What to do about a problem.
@@ -195,6 +225,7 @@ impl<'a> Found<'a> {
             span: finding.span,
             problem: Problem::Class(finding.problem),
             related,
+            others: Others::NONE,
         }
     }
 
@@ -248,6 +279,8 @@ impl<'a> Found<'a> {
                 .related
                 .and_then(|related| related.span.text(pattern))
                 .unwrap_or(""),
+            others: self.others,
+            pattern,
         }
     }
 }

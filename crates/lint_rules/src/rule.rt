@@ -192,7 +192,7 @@ pub static RULES: [RuleRow; 34] = [
         name: "unreachable-branch",
         what: "a branch that never matches, since an earlier one matches wherever it would, and nothing follows",
         example: r"#(?:if|ifdef)",
-        help: "put it before the earlier branch, or remove it",
+        help: "put longer branches first, or remove them",
         found: &[
             Found {
                 pattern: r"[{}.]|\.\.",
@@ -293,8 +293,8 @@ pub static RULES: [RuleRow; 34] = [
         example: r"a{1}",
         help: "remove the quantifier",
         found: &[Found {
-            pattern: r"region/(?P<region>[a-z]{2}-[a-z]+-\d{1})",
-            instead: r"region/(?P<region>[a-z]{2}-[a-z]+-\d)",
+            pattern: r".+[0-9a-zA-Z]{1}$",
+            instead: r".+[0-9a-zA-Z]$",
         }],
         fix: Some(FixKind::UselessQuantifier),
         ..WARNS
@@ -345,8 +345,8 @@ pub static RULES: [RuleRow; 34] = [
         example: r"[a]b",
         help: "write the character without brackets",
         found: &[Found {
-            pattern: r"\.(?!\.)[0-9_]*[f]*",
-            instead: r"\.(?!\.)[0-9_]*f*",
+            pattern: r#"[E]?""#,
+            instead: r#"E?""#,
         }],
         fix: Some(FixKind::SingleCharacterClass),
         ..WARNS
@@ -429,7 +429,7 @@ pub static RULES: [RuleRow; 34] = [
         name: "subsumed-branch",
         what: "a branch of one character that another branch matches too",
         example: r"\d|\w",
-        help: "remove it",
+        help: "remove what the other branch matches too",
         found: &[Found {
             pattern: r"(\s)(//[^/]+//)((?=\W|\n))",
             instead: r"(\s)(//[^/]+//)((?=\W))",

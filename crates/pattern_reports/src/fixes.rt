@@ -20,12 +20,24 @@ use std::alloc::AllocError;
 /// `pattern_fixes::fixed::MAX_FIXES`, so that only a pattern with thousands of them has some left.
 pub const MAX_ROUNDS: usize = 64;
 
-/// The report, if there may be an edit that fixes it.
-fn fixable(found: &Found<'_>) -> Option<FixableReport> {
-    Some(FixableReport {
-        kind: found.problem.rule().row().fix?,
-        span: found.span,
-    })
+/// A part of a pattern, and a text about it or in its place.
+#[derive(Drop)]
+pub struct PartText {
+    pub span: Span,
+    pub text: String,
+}
+
+/// Adds the report, once for each part that has the problem, if there may be edits that fix it.
+fn add_fixable(found: &Found<'_>, reports: &mut Vec<FixableReport>) -> Result<(), AllocError> {
+    let Some(kind) = found.problem.rule().row().fix else {
+        return Ok(());
+    };
+    let span = found.span;
+    reports.push(FixableReport { kind, span })?;
+    for span in found.others.named.iter().flatten() {
+        reports.push(FixableReport { kind, span: *span })?;
+    }
+    Ok(())
 }
 
 /// Whether a `#` is at the span, which may begin a comment.
@@ -40,8 +52,8 @@ fn fixable_reports(
     found: &[Found<'_>],
 ) -> Result<Vec<FixableReport>, AllocError> {
     let mut reports = Vec::new(subject.alloc);
-    for report in found.iter().filter_map(fixable) {
-        reports.push(report)?;
+    for one in found {
+        add_fixable(one, &mut reports)?;
     }
     if reports
         .iter()
@@ -69,21 +81,57 @@ fn parsed_pattern<'p, 't>(subject: Subject<'p>, parsed: &'t SpannedTree) -> Pars
     }
 }
 
+/// What becomes of the part of the pattern from the first of the reports through the last one, if these are fixed.
+fn fix_of_several(
+    pattern: ParsedPattern<'_, '_>,
+    own: &[FixableReport],
+) -> Result<Option<PartText>, AllocError> {
+    let (Some(first), Some(last)) = (own.first(), own.last()) else {
+        return Ok(None);
+    };
+    let Some(text) = pattern.fixed(own)? else {
+        return Ok(None);
+    };
+    let (start, end) = (first.span.start, last.span.end);
+    let rest = pattern.pattern.len().saturating_sub(end);
+    let Some(part) = text.get(start..text.len().saturating_sub(rest)) else {
+        return Ok(None);
+    };
+    Ok(Some(PartText {
+        span: Span { start, end },
+        text: String::from_str(pattern.alloc, part)?,
+    }))
+}
+
+/// The edit that fixes the report by itself, which is one of the reports, if there is one.
+fn fix_of(
+    pattern: ParsedPattern<'_, '_>,
+    report: FixableReport,
+    reports: &[FixableReport],
+) -> Result<Option<PartText>, AllocError> {
+    let Some(Edit { span, text }) = pattern.fix(report, reports)? else {
+        return Ok(None);
+    };
+    let text = String::from_str(pattern.alloc, text)?;
+    Ok(Some(PartText { span, text }))
+}
+
 /// For each report the edit that fixes it by itself, if there is one.
-pub fn fixes_of<'p>(
-    subject: Subject<'p>,
+pub fn fixes_of(
+    subject: Subject<'_>,
     parsed: &SpannedTree,
     found: &[Found<'_>],
-) -> Result<Vec<Option<Edit<'p>>>, AllocError> {
+) -> Result<Vec<Option<PartText>>, AllocError> {
     let reports = fixable_reports(subject, parsed, found)?;
     let pattern = parsed_pattern(subject, parsed);
     let mut fixes = Vec::new(subject.alloc);
     for one in found {
-        let fix = match fixable(one) {
-            Some(report) if reports.iter().any(|other| other.span == report.span) => {
-                pattern.fix(report, &reports)?
-            }
-            _ => None,
+        let mut own = Vec::new(subject.alloc);
+        add_fixable(one, &mut own)?;
+        own.retain(|report| reports.iter().any(|other| other.span == report.span));
+        let fix = match own.as_slice() {
+            [report] => fix_of(pattern, *report, &reports)?,
+            several => fix_of_several(pattern, several)?,
         };
         fixes.push(fix)?;
     }

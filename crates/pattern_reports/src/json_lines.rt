@@ -4,7 +4,7 @@ mod groups;
 mod node;
 
 use crate::error_kinds::code;
-use crate::fixes::fixes_of;
+use crate::fixes::{PartText, fixes_of};
 use crate::json_lines::fields::{
     begin, finish, write_number, write_related, write_span, write_text,
 };
@@ -17,7 +17,6 @@ use fancy_syntax::spanned::SpannedTree;
 use json::Writer;
 use lint_rules::chosen::Chosen;
 use lint_rules::problem::{Found, NOT_SEARCHED, Problem};
-use pattern_fixes::edit::Edit;
 use patterns_listing::fact_words::FactRows;
 use patterns_text::error::RunError;
 use patterns_text::nodes::nodes_of;
@@ -72,15 +71,15 @@ fn write_attack(
 }
 
 /// Writes the field of the edit that fixes a likely mistake, if there is one.
-fn write_fix(writer: &mut Writer, fix: Option<Edit<'_>>) -> Result<(), AllocError> {
-    let Some(Edit { span, text }) = fix else {
+fn write_fix(writer: &mut Writer, fix: Option<&PartText>) -> Result<(), AllocError> {
+    let Some(PartText { span, text }) = fix else {
         return Ok(());
     };
     writer.key("fix")?;
     writer.begin_object()?;
     write_number(writer, "start", span.start as u64)?;
     write_number(writer, "end", span.end as u64)?;
-    write_text(writer, "text", text)?;
+    write_text(writer, "text", text.as_str())?;
     writer.end_object()
 }
 
@@ -91,12 +90,13 @@ fn write_problem(
     characters: &CharacterTable,
     severity: Severity,
     found: Found<'_>,
-    fix: Option<Edit<'_>>,
+    fix: Option<&PartText>,
 ) -> Result<(), RunError> {
     let Found {
         span,
         problem,
         related,
+        ..
     } = found;
     let Subject { alloc, pattern, .. } = subject;
     let message = format!(in alloc; "{}", found.message(pattern))?;
@@ -143,7 +143,7 @@ impl Reporter for JsonLines<'_> {
         let fixes = fixes_of(subject, parsed, written)?;
         for (one, fix) in written.iter().zip(&fixes) {
             let severity = Severity::of(chosen.level(one.problem.rule()));
-            write_problem(self.out, subject, &characters, severity, *one, *fix)?;
+            write_problem(self.out, subject, &characters, severity, *one, fix.as_ref())?;
         }
         let more = found.len().saturating_sub(MAX_REPORTS);
         if more > 0 {

@@ -1,6 +1,6 @@
 //! Reports that are kept, for a program that shows them itself.
 use crate::error_kinds::code;
-use crate::fixes::fixes_of;
+use crate::fixes::{PartText, fixes_of};
 use crate::reporter::{MAX_REPORTS, Reporter};
 use crate::severity::Severity;
 use fancy_syntax::span::Span;
@@ -8,18 +8,10 @@ use fancy_syntax::spanned::SpannedTree;
 use lint_rules::chosen::Chosen;
 use lint_rules::problem::{Found, NOT_SEARCHED};
 use lint_rules::rule::Rule;
-use pattern_fixes::edit::Edit;
 use patterns_text::error::RunError;
 use patterns_text::excerpt::Related;
 use patterns_text::subject::{Advice, Refusal, Subject};
 use std::alloc::{AllocError, Global};
-
-/// A part of a pattern, and a text about it or in its place.
-#[derive(Drop)]
-pub struct PartText {
-    pub span: Span,
-    pub text: String,
-}
 
 /// A report on a part of a pattern. Spans are in byte offsets of the pattern.
 #[derive(Drop)]
@@ -49,15 +41,6 @@ fn related_part(alloc: Global, related: Option<Related>) -> Result<Option<PartTe
     Ok(Some(PartText { span, text }))
 }
 
-/// The edit, with a text of its own.
-fn fix_part(alloc: Global, fix: Option<Edit<'_>>) -> Result<Option<PartText>, AllocError> {
-    let Some(Edit { span, text }) = fix else {
-        return Ok(None);
-    };
-    let text = String::from_str(alloc, text)?;
-    Ok(Some(PartText { span, text }))
-}
-
 /// The report of an error.
 fn error_report(subject: Subject<'_>, refusal: &Refusal) -> Result<Report, RunError> {
     let Subject { alloc, pattern, .. } = subject;
@@ -84,13 +67,14 @@ fn problem_report(
     subject: Subject<'_>,
     severity: Severity,
     found: Found<'_>,
-    fix: Option<Edit<'_>>,
+    fix: Option<PartText>,
 ) -> Result<Report, AllocError> {
     let Subject { alloc, pattern, .. } = subject;
     let Found {
         span,
         problem,
         related,
+        ..
     } = found;
     let rule = problem.rule();
     Ok(Report {
@@ -101,7 +85,7 @@ fn problem_report(
         message: format!(in alloc; "{}", found.message(pattern))?,
         help: Some(format!(in alloc; "{}", found.help(pattern))?),
         related: related_part(alloc, related)?,
-        fix: fix_part(alloc, fix)?,
+        fix,
     })
 }
 
@@ -141,9 +125,9 @@ impl Reporter for Kept<'_> {
     ) -> Result<(), RunError> {
         let kept = found.get(..MAX_REPORTS).unwrap_or(found);
         let fixes = fixes_of(subject, parsed, kept)?;
-        for (one, fix) in kept.iter().zip(&fixes) {
+        for (one, fix) in kept.iter().zip(fixes) {
             let severity = Severity::of(chosen.level(one.problem.rule()));
-            let report = problem_report(subject, severity, *one, *fix)?;
+            let report = problem_report(subject, severity, *one, fix)?;
             self.reports.push(report)?;
         }
         let more = found.len().saturating_sub(MAX_REPORTS);

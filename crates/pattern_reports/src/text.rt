@@ -39,6 +39,7 @@ fn write_problem(
         span,
         problem,
         related,
+        ..
     } = found;
     let subject = subject.part(span.start);
     let (paint, ink) = (subject.at.reported, severity.ink());

@@ -34,9 +34,9 @@ abbrev pub is_invalid_quantifier : Tree → Bool
 is_invalid_quantifier (repeat t lo hi greedy) = nat_lt hi lo
 is_invalid_quantifier _ = false
 
--- a quantifier that repeats once; where a branch beside it differs from it in the count alone, it shows the difference
+-- a quantifier that repeats once; beside another count it shows the difference
 abbrev pub is_useless_quantifier : Surroundings → Tree → Bool
-is_useless_quantifier s (repeat t lo hi greedy) = (lo == 1) && (hi == 1) && not s.has_count_twin
+is_useless_quantifier s (repeat t lo hi greedy) = (lo == 1) && (hi == 1) && not s.has_other_count
 is_useless_quantifier _ _ = false
 
 -- a quantifier that repeats no times; but where there are calls, a group may be defined so

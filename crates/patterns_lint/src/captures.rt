@@ -4,7 +4,7 @@ ghost use Rattle.patterns_lint.specs.Targets as spec;
 
 use crate::targets::above;
 use fancy_syntax::span::Span;
-use lint_rules::problem::{Found, Problem, Total};
+use lint_rules::problem::{Found, Others, Problem, Total};
 use patterns_text::grammar_rule::Capture;
 use std::alloc::{AllocError, Global};
 
@@ -38,6 +38,7 @@ pub(crate) fn missing_captures(
                 span,
                 problem,
                 related: None,
+                others: Others::NONE,
             })?;
         }
     }

@@ -29,3 +29,79 @@ pub(crate) fn is_single_character_class(tree: &Expr, text: &str, before: &str) -
         None => false,
     }
 }
+
+/// The counts of a quantifier.
+#[derive(Clone, Copy, PartialEq, Eq)]
+struct Counts {
+    lo: usize,
+    hi: usize,
+}
+
+/// The form of a node: its quantifier, and what is beside it.
+#[derive(Clone, Copy)]
+pub(crate) struct Form<'t> {
+    /// The quantifier, if there is one, but for groups around it.
+    counts: Option<Counts>,
+    /// The pieces before and after it, if it is one, but for groups and a quantifier around it.
+    beside: (Option<&'t Expr>, Option<&'t Expr>),
+}
+
+/// Whether the node is a class in brackets.
+fn is_in_brackets(tree: &Expr) -> bool {
+    match tree {
+        Expr::Delegate { inner, .. } => inner.as_str().starts_with('['),
+        _ => false,
+    }
+}
+
+/// Whether the piece is a class in brackets with this quantifier, or a choice of which one branch is a class in brackets.
+fn is_such_a_class(piece: &Expr, counts: Option<Counts>) -> bool {
+    let tree = match piece {
+        Expr::Group(inside) => inside,
+        other => other,
+    };
+    match tree {
+        Expr::Repeat { child, lo, hi, .. } => {
+            let (lo, hi) = (*lo, *hi);
+            counts == Some(Counts { lo, hi }) && is_in_brackets(child)
+        }
+        Expr::Alt(branches) => branches.iter().any(is_in_brackets),
+        _ => false,
+    }
+}
+
+impl<'t> Form<'t> {
+    /// That of a node without a quantifier, and with nothing beside it.
+    pub(crate) fn alone() -> Form<'t> {
+        Form {
+            counts: None,
+            beside: (None, None),
+        }
+    }
+
+    /// That of the child of the tree, which has this form, at this index.
+    pub(crate) fn of_child(self, tree: &'t Expr, index: usize) -> Form<'t> {
+        match tree {
+            Expr::Group(_) => self,
+            Expr::Repeat { lo, hi, .. } => Form {
+                counts: Some(Counts { lo: *lo, hi: *hi }),
+                beside: self.beside,
+            },
+            Expr::Concat(pieces) => Form {
+                counts: None,
+                beside: (
+                    index.checked_sub(1).and_then(|before| pieces.get(before)),
+                    pieces.get(index.saturating_add(1)),
+                ),
+            },
+            _ => Form::alone(),
+        }
+    }
+
+    /// Whether a class in brackets is beside it, with the same quantifier or as a branch.
+    pub(crate) fn is_like_the_next_one(self) -> bool {
+        let (before, after) = self.beside;
+        before.is_some_and(|piece| is_such_a_class(piece, self.counts))
+            || after.is_some_and(|piece| is_such_a_class(piece, self.counts))
+    }
+}

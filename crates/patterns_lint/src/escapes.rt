@@ -123,7 +123,10 @@ fn has_in_other_case(class: &str, item: &str) -> bool {
 
 /// The class around the item at the span. `nodes` are those of the pattern, in preorder: it is the last one that begins
 /// before the item.
-fn class_around<'n, 'a>(item: Span, nodes: &'n [SpannedNode<'a>]) -> Option<&'n SpannedNode<'a>> {
+pub(crate) fn class_around<'n, 'a>(
+    item: Span,
+    nodes: &'n [SpannedNode<'a>],
+) -> Option<&'n SpannedNode<'a>> {
     let following = nodes.partition_point(|node| node.span().start <= item.start);
     nodes.get(following.checked_sub(1)?)
 }
@@ -152,4 +155,19 @@ pub(crate) fn is_of_other_case(item: Span, pattern: &str, nodes: &[SpannedNode<'
         && source.len() <= MOST_BYTES
         && is_letter_range(part)
         && has_in_other_case(source, part)
+}
+
+/// Whether the item at the span is a character from U+0080 to U+00FF in a class that ignores case, which has it once: what
+/// bytes contain it only by its case. `nodes` are those of the pattern, in preorder.
+pub(crate) fn is_byte_by_case(item: Span, pattern: &str, nodes: &[SpannedNode<'_>]) -> bool {
+    let Some(class) = class_around(item, nodes) else {
+        return false;
+    };
+    let (Some(source), Some(part)) = (class.text(pattern), item.text(pattern)) else {
+        return false;
+    };
+    let is_byte = ends(part).is_some_and(|(first, _)| matches!(first, '\u{80}'..='\u{FF}'));
+    is_byte
+        && matches!(class.expr(), Expr::Delegate { casei: true, .. })
+        && source.matches(part).count() == 1
 }

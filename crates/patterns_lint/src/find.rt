@@ -1,7 +1,8 @@
 //! All that the rules find in a pattern.
 use crate::branches::Following;
 use crate::captures::missing_captures;
-use crate::escapes::{containing_escape, is_of_other_case};
+use crate::classes::Form;
+use crate::escapes::{class_around, containing_escape, is_byte_by_case, is_of_other_case};
 use crate::flags::useless_flags;
 use crate::handed_on::is_handed_on;
 use crate::known::Known;
@@ -15,10 +16,11 @@ use class_rules::class_problem::{ClassFinding, ClassLook, ClassProblem};
 use class_rules::class_walk::class_findings;
 use dialects::dialect::Dialect;
 use dialects::spelling::{DifferentSpelling, spellings};
+use fancy_syntax::span::Span;
 use fancy_syntax::spanned::{SpannedNode, SpannedTree};
 use lint_rules::attack_text::AttackText;
 use lint_rules::chosen::{Chosen, Level};
-use lint_rules::problem::{Found, Problem};
+use lint_rules::problem::{Found, Others, Problem};
 use patterns_text::grammar_rule::GrammarRule;
 use patterns_text::nodes::nodes_of;
 use patterns_text::position::Spot;
@@ -26,15 +28,18 @@ use patterns_text::subject::Subject;
 use std::alloc::AllocError;
 
 /// The pattern as a node.
-static ROOT: Around = Around {
-    following: Following::Nothing,
-    is_whole: true,
-    has_count_twin: false,
-    is_atomic: false,
-    beside: (Neighbour::Unknown, Neighbour::Unknown),
-    next: None,
-    delimiter: None,
-};
+fn root() -> Around<'static> {
+    Around {
+        following: Following::Nothing,
+        is_whole: true,
+        has_other_count: false,
+        is_atomic: false,
+        beside: (Neighbour::Unknown, Neighbour::Unknown),
+        next: None,
+        delimiter: None,
+        form: Form::alone(),
+    }
+}
 
 /// What is wrong with a class, or with a branch of one character. `nodes` are those of the pattern, in preorder.
 fn of_class<'a>(finding: ClassFinding, pattern: &str, nodes: &[SpannedNode<'_>]) -> Found<'a> {
@@ -50,13 +55,68 @@ fn of_class<'a>(finding: ClassFinding, pattern: &str, nodes: &[SpannedNode<'_>])
 /// What is wrong with a class whose backslashes are doubled.
 static DOUBLED: ClassProblem = ClassProblem::SuspiciousClass(ClassLook::DoubledBackslashes);
 
+/// How many of the last reports may say the same of another part.
+const LAST_REPORTS: usize = 16;
+
+/// Whether the report says the same of an earlier part. `class` is where the class around the later part begins.
+fn says_the_same(earlier: &Found<'_>, later: &Found<'_>, class: usize) -> bool {
+    let is_in_class = class <= earlier.span.start;
+    match (earlier.problem, later.problem) {
+        (Problem::Class(one), Problem::Class(other)) => match one {
+            ClassProblem::DuplicateCharacters => is_in_class && one == other,
+            ClassProblem::SubsumedBranch { .. } => one == other,
+            ClassProblem::Invalid(_)
+            | ClassProblem::Empty
+            | ClassProblem::SuspiciousClass(_)
+            | ClassProblem::SuspiciousRange { .. }
+            | ClassProblem::BarBetweenEscapes
+            | ClassProblem::HyphenRange => false,
+        },
+        (
+            Problem::CharactersInEscape { escape: one },
+            Problem::CharactersInEscape { escape: other },
+        ) => is_in_class && one == other,
+        _ => false,
+    }
+}
+
+/// Adds the report, or its part to an earlier report that says the same.
+fn add_or_join<'a>(
+    found: &mut Vec<Found<'a>>,
+    report: Found<'a>,
+    class: usize,
+) -> Result<(), AllocError> {
+    let first = found.len().saturating_sub(LAST_REPORTS);
+    for earlier in found.iter_mut().skip(first) {
+        if says_the_same(earlier, &report, class) {
+            earlier.others.add(report.span);
+            return Ok(());
+        }
+    }
+    found.push(report)?;
+    Ok(())
+}
+
+/// Whether the items at the span, which the others contain, are there for a reason: a range that the class has in the other
+/// case, or in Perl what the others contain by its case alone.
+fn is_meant(
+    item: Span,
+    pattern: &str,
+    nodes: &[SpannedNode<'_>],
+    dialect: Option<Dialect>,
+) -> bool {
+    is_of_other_case(item, pattern, nodes)
+        || (dialect == Some(Dialect::Perl) && is_byte_by_case(item, pattern, nodes))
+}
+
 /// Adds what is wrong with classes and with branches of one character; of classes whose backslashes are doubled the first, and
-/// no range that its class has in the other case.
+/// no item that is meant.
 fn add_of_classes(
     found: &mut Vec<Found<'_>>,
     findings: &[ClassFinding],
     pattern: &str,
     nodes: &[SpannedNode<'_>],
+    dialect: Option<Dialect>,
 ) -> Result<(), AllocError> {
     let mut has_doubled = false;
     for finding in findings {
@@ -65,12 +125,13 @@ fn add_of_classes(
             continue;
         }
         if finding.problem == ClassProblem::DuplicateCharacters
-            && is_of_other_case(finding.span, pattern, nodes)
+            && is_meant(finding.span, pattern, nodes, dialect)
         {
             continue;
         }
         has_doubled = has_doubled || is_doubled;
-        found.push(of_class(*finding, pattern, nodes))?;
+        let class = class_around(finding.span, nodes).map_or(0, |node| node.span().start);
+        add_or_join(found, of_class(*finding, pattern, nodes), class)?;
     }
     Ok(())
 }
@@ -86,6 +147,7 @@ fn add_differences(
             span,
             problem: Problem::DialectDifference { difference },
             related: None,
+            others: Others::NONE,
         })?;
     }
     Ok(())
@@ -127,13 +189,14 @@ fn report_slow<'a>(
 
 /// All that the rules find, in the order of the text. The tree is that of the pattern; `grammar` is what the object
 /// around it says, if it is a pattern of a grammar. `known` has the classes of the run's patterns, and `slow` what is
-/// slow in this one.
+/// slow in this one. `dialect` is what it is written in.
 fn problems<'a>(
     subject: Subject<'_>,
     parsed: &'a SpannedTree,
     grammar: Option<&GrammarRule>,
     known: &mut Known,
     slow: &'a SlowParts,
+    dialect: Option<Dialect>,
 ) -> Result<Vec<Found<'a>>, AllocError> {
     let Subject {
         alloc,
@@ -152,7 +215,7 @@ fn problems<'a>(
         begin_groups: grammar.and_then(|rule| rule.begin_groups),
     };
     let mut walk = Walk::new(alloc);
-    scan(parsed.root(), &mut walk, about, ROOT, &mut known.classes)?;
+    scan(parsed.root(), &mut walk, about, root(), &mut known.classes)?;
     let nodes = nodes_of(alloc, parsed)?;
     report_slow(slow, &nodes, &mut walk)?;
     let mut ways = Ways::new(alloc, tree)?;
@@ -162,7 +225,7 @@ fn problems<'a>(
     let mut found = walk.found;
     found.extend_from_slice(&ways.walk.found)?;
     let findings = class_findings(alloc, parsed.root(), pattern, &mut known.classes)?;
-    add_of_classes(&mut found, &findings, pattern, &nodes)?;
+    add_of_classes(&mut found, &findings, pattern, &nodes, dialect)?;
     found.extend_from_slice(&useless_flags(alloc, pattern, &parsed.trivia)?)?;
     add_differences(&mut found, &spellings(alloc, pattern, &nodes)?)?;
     if let Some(rule) = grammar {
@@ -209,7 +272,7 @@ pub fn reported<'a>(
     known: &mut Known,
     slow: &'a SlowParts,
 ) -> Result<Option<Vec<Found<'a>>>, AllocError> {
-    let mut found = problems(subject, parsed, grammar, known, slow)?;
+    let mut found = problems(subject, parsed, grammar, known, slow, chosen.dialect)?;
     let is_other = match chosen.dialect {
         Some(dialect) => keep_in_dialect(&mut found, subject.pattern, dialect),
         None => false,

@@ -6,7 +6,7 @@ use fancy_lex::group_starts::{FlagLetter, next_letter};
 use fancy_lex::layout::past_layout;
 use fancy_syntax::span::Span;
 use fancy_syntax::trivium::{Trivium, TriviumKind};
-use lint_rules::problem::{Found, Problem};
+use lint_rules::problem::{Found, Others, Problem};
 use std::alloc::{AllocError, Global};
 
 /// The flags before the letters of inline flags or of a flag group; None for another part.
@@ -79,6 +79,7 @@ fn report_letters(
                 span: span_of(letter, end),
                 problem,
                 related: None,
+                others: Others::NONE,
             })?;
         }
         (rest, flags, is_first) = (letter.rest, letter.after, false);

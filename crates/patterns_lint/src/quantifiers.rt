@@ -16,8 +16,9 @@ use lint_rules::rule::Rule;
 pub(crate) struct Surroundings {
     /// Whether the pattern has calls, so that a group may also be matched where it is called.
     pub(crate) has_calls: bool,
-    /// Whether the node is a branch beside one that differs from it in the count alone.
-    pub(crate) has_count_twin: bool,
+    /// Whether the node is a branch beside one that differs from it in the count alone, or a piece beside one with a fixed count
+    /// above 1.
+    pub(crate) has_other_count: bool,
     /// Whether the node is all of an atomic group, as if its quantifier is possessive.
     pub(crate) is_atomic: bool,
     /// Whether nothing follows the node in the pattern, or in a group that is left at its first match.
@@ -66,14 +67,27 @@ fn is_invalid_quantifier(tree: &Expr) -> bool
     *hi < *lo
 }
 
-/// Whether it repeats exactly once. Where a branch beside it differs from it in the count alone, it is no mistake.
+/// Whether it repeats exactly once. Beside another count it is no mistake.
 fn is_useless_quantifier(tree: &Expr, around: Surroundings) -> bool
     ensures { result ≡ spec.is_useless_quantifier around (view tree.now) }
 {
     let Expr::Repeat { lo: 1, hi: 1, .. } = tree else {
         return false;
     };
-    !around.has_count_twin
+    !around.has_other_count
+}
+
+/// Whether one of the pieces is repeated a fixed number of times, more than once.
+pub(crate) fn has_count_above_one(pieces: &[Expr]) -> bool {
+    for piece in pieces {
+        if let Expr::Repeat { lo, hi, .. } = piece
+            && *lo == *hi
+            && *lo > 1
+        {
+            return true;
+        }
+    }
+    false
 }
 
 /// Whether it repeats zero times. Where there are calls, one on a group is none: it may define the group for them.

@@ -2,11 +2,11 @@
 use crate::branches::{
     Earlier, Following, Situation, has_count_twin, is_word_list, only_character,
 };
-use crate::classes::is_single_character_class;
+use crate::classes::{Form, is_single_character_class};
 use crate::empty::is_useless_look_around;
 use crate::fingerprint::Fingerprint;
 use crate::neighbours::{Neighbour, beside, is_variable, never_holds};
-use crate::quantifiers::{Surroundings, quantifier_rule};
+use crate::quantifiers::{Surroundings, has_count_above_one, quantifier_rule};
 use crate::targets::{
     is_numbered_reference, is_unresolved_call, missing_begin_group, missing_condition_group,
     missing_group,
@@ -40,12 +40,12 @@ pub(crate) struct PatternInfo<'a> {
 
 /// What is known of a node from what is around it.
 #[derive(Clone, Copy)]
-pub(crate) struct Around {
+pub(crate) struct Around<'t> {
     pub(crate) following: Following,
     /// Whether the pattern consists of it, but for groups around it.
     pub(crate) is_whole: bool,
-    /// Whether it is a branch beside one that differs from it in the count alone.
-    pub(crate) has_count_twin: bool,
+    /// Whether it is a branch beside one that differs from it in the count alone, or a piece beside one with a fixed count above 1.
+    pub(crate) has_other_count: bool,
     /// Whether it is all of an atomic group.
     pub(crate) is_atomic: bool,
     /// What is before and after it, if it is a piece of a concatenation.
@@ -54,14 +54,16 @@ pub(crate) struct Around {
     pub(crate) next: Option<char>,
     /// If it is all of a loop, the character that follows the loop.
     pub(crate) delimiter: Option<char>,
+    /// Its quantifier, and what is beside it, for the rule on classes of one character.
+    pub(crate) form: Form<'t>,
 }
 
-impl Around {
+impl Around<'_> {
     /// What the rules on quantifiers know of it.
     fn surroundings(self, about: PatternInfo<'_>) -> Surroundings {
         Surroundings {
             has_calls: about.has_calls,
-            has_count_twin: self.has_count_twin,
+            has_other_count: self.has_other_count,
             is_atomic: self.is_atomic,
             is_at_end: self.following == Following::Nothing,
         }
@@ -95,12 +97,12 @@ fn reference_problem(tree: &Expr, span: Span, about: PatternInfo<'_>) -> Option<
 fn node_problem(
     node: SpannedNode<'_>,
     about: PatternInfo<'_>,
-    around: Around,
+    around: Around<'_>,
 ) -> Option<Problem<'static>> {
     let (tree, span) = (node.expr(), node.span());
     let before = about.pattern.get(..span.start).unwrap_or("");
     let text = span.text(about.pattern).unwrap_or("");
-    if is_single_character_class(tree, text, before) {
+    if is_single_character_class(tree, text, before) && !around.form.is_like_the_next_one() {
         return Some(Problem::Plain(Rule::SingleCharacterClass));
     }
     if is_useless_look_around(tree) {
@@ -140,8 +142,17 @@ fn after_inside(wrap: Wrap, following: Following) -> Following {
     }
 }
 
-/// How many branches of an alternation are reported that an earlier one leaves nothing to match.
+/// How many branches of an alternation are reported that leave later ones nothing to match.
 const MAX_UNREACHABLE: usize = 8;
+
+/// A report on a branch that an earlier one leaves nothing to match.
+#[derive(Clone, Copy)]
+struct UnreachableReport {
+    /// The number of the earlier branch.
+    earlier: usize,
+    /// Where the report is among those of the walk.
+    index: usize,
+}
 
 /// The branches of an alternation, and those before the next one; no branches of another node.
 #[derive(Drop)]
@@ -152,13 +163,13 @@ struct AltBranches<'b> {
     may_be_extended: bool,
     has_calls: bool,
     delimiter: Option<char>,
-    /// How many are reported that an earlier one leaves nothing to match.
-    unreachable: usize,
+    /// The reports on branches that an earlier one leaves nothing to match, one for each of these.
+    unreachable: Vec<UnreachableReport>,
 }
 
 impl<'b> AltBranches<'b> {
     /// Those of the node. After a list of words that is the whole pattern an engine may add `\b`, as for keywords.
-    fn of(tree: &'b Expr, about: PatternInfo<'b>, around: Around) -> AltBranches<'b> {
+    fn of(tree: &'b Expr, about: PatternInfo<'b>, around: Around<'_>) -> AltBranches<'b> {
         let all: &[Expr] = match tree.shape() {
             Shape::Alt(branches) => branches,
             Shape::Leaf
@@ -174,17 +185,54 @@ impl<'b> AltBranches<'b> {
             may_be_extended: around.is_whole && !about.is_complete && is_word_list(all),
             has_calls: about.has_calls,
             delimiter: around.delimiter,
-            unreachable: 0,
+            unreachable: Vec::new(about.alloc),
         }
     }
 
-    /// Whether it is reported: of branches that an earlier one leaves nothing to match only the first ones.
-    fn is_reported(&mut self, problem: Problem<'_>) -> bool {
-        if problem.rule() != Rule::UnreachableBranch {
-            return true;
+    /// The index of the report on a branch that the one of this number leaves nothing to match.
+    fn report_of(&self, earlier: usize) -> Option<usize> {
+        for report in &self.unreachable {
+            if report.earlier == earlier {
+                return Some(report.index);
+            }
         }
-        self.unreachable = self.unreachable.saturating_add(1);
-        self.unreachable <= MAX_UNREACHABLE
+        None
+    }
+
+    /// Reports that the branch of this number leaves the later one at the span nothing to match; if that is reported of another
+    /// one, there.
+    fn report_unreachable(
+        &mut self,
+        span: Span,
+        earlier: usize,
+        walk: &mut Walk<'_>,
+    ) -> Result<(), AllocError> {
+        if let Some(index) = self.report_of(earlier) {
+            if let Some(report) = walk.found.get_mut(index) {
+                report.others.add(span);
+            }
+            return Ok(());
+        }
+        if self.unreachable.len() == MAX_UNREACHABLE {
+            return Ok(());
+        }
+        let index = walk.found.len();
+        self.unreachable.push(UnreachableReport { earlier, index })?;
+        let problem = Problem::UnreachableBranch { earlier };
+        walk.report_beside(span, problem, self.related(problem))
+    }
+
+    /// Reports what is wrong with the branch at the span.
+    fn report(
+        &mut self,
+        span: Span,
+        problem: Problem<'static>,
+        walk: &mut Walk<'_>,
+    ) -> Result<(), AllocError> {
+        if let Problem::UnreachableBranch { earlier } = problem {
+            return self.report_unreachable(span, earlier, walk);
+        }
+        walk.report_beside(span, problem, self.related(problem))
     }
 
     /// The branch that the problem names.
@@ -219,10 +267,7 @@ impl<'b> AltBranches<'b> {
             .earlier
             .problem(before, branch, whole, situation, known)?;
         self.earlier.add(branch, whole)?;
-        match problem {
-            Some(found) if self.is_reported(found) => Ok(Some(found)),
-            _ => Ok(None),
-        }
+        Ok(problem)
     }
 }
 
@@ -231,7 +276,7 @@ fn look_at<'a>(
     node: SpannedNode<'_>,
     walk: &mut Walk<'a>,
     about: PatternInfo<'_>,
-    around: Around,
+    around: Around<'_>,
 ) -> Result<(), AllocError> {
     if let Some(problem) = node_problem(node, about, around) {
         walk.report(node.span(), problem)?;
@@ -256,7 +301,7 @@ fn character_at(pieces: &[Expr], index: usize) -> Option<char> {
 }
 
 /// The character after the child of this index; after all of a group that after the group.
-fn next_to_child(tree: &Expr, index: usize, around: Around) -> Option<char> {
+fn next_to_child(tree: &Expr, index: usize, around: Around<'_>) -> Option<char> {
     if let Expr::Group(_) = tree {
         around.next
     } else {
@@ -265,7 +310,7 @@ fn next_to_child(tree: &Expr, index: usize, around: Around) -> Option<char> {
 }
 
 /// The character that follows the loop that the child of the tree is all of.
-fn delimiter_of_child(tree: &Expr, around: Around) -> Option<char> {
+fn delimiter_of_child(tree: &Expr, around: Around<'_>) -> Option<char> {
     if let Expr::Group(_) = tree {
         return around.delimiter;
     }
@@ -275,17 +320,25 @@ fn delimiter_of_child(tree: &Expr, around: Around) -> Option<char> {
     if *hi > 1 { around.next } else { None }
 }
 
-/// What is known of the child of this index.
-fn around_child(tree: &Expr, branches: &[Expr], index: usize, around: Around) -> Around {
+/// What is known of the child of this index. `has_fixed_count` says that the tree is a concatenation with a piece of a fixed
+/// count above 1.
+fn around_child<'t>(
+    tree: &'t Expr,
+    branches: &[Expr],
+    index: usize,
+    around: Around<'t>,
+    has_fixed_count: bool,
+) -> Around<'t> {
     let pieces = pieces_of(tree);
     Around {
         following: after_child(tree, index, around.following),
         is_whole: around.is_whole && matches!(tree, Expr::Group(_)),
-        has_count_twin: has_count_twin(branches, index),
+        has_other_count: has_fixed_count || has_count_twin(branches, index),
         is_atomic: matches!(tree, Expr::AtomicGroup(_)),
         beside: beside(pieces, index),
         next: next_to_child(tree, index, around),
         delimiter: delimiter_of_child(tree, around),
+        form: around.form.of_child(tree, index),
     }
 }
 
@@ -294,17 +347,18 @@ pub(crate) fn scan<'a>(
     node: SpannedNode<'_>,
     walk: &mut Walk<'a>,
     about: PatternInfo<'_>,
-    around: Around,
+    around: Around<'_>,
     known: &mut KnownClasses,
 ) -> Result<(), AllocError> {
     look_at(node, walk, about, around)?;
     let mut branches = AltBranches::of(node.expr(), about, around);
+    let has_fixed_count = has_count_above_one(pieces_of(node.expr()));
     let mut index = 0usize;
     for child in node.children() {
         if let Some(problem) = branches.next_problem(index, child, known)? {
-            walk.report_beside(child.span(), problem, branches.related(problem))?;
+            branches.report(child.span(), problem, walk)?;
         }
-        let inside = around_child(node.expr(), branches.all, index, around);
+        let inside = around_child(node.expr(), branches.all, index, around, has_fixed_count);
         scan(child, walk, about, inside, known)?;
         index = index.saturating_add(1);
     }

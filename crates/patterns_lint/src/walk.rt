@@ -1,6 +1,6 @@
 //! What a walk over the nodes of a pattern's tree finds.
 use fancy_syntax::span::Span;
-use lint_rules::problem::{Found, Problem};
+use lint_rules::problem::{Found, Others, Problem};
 use patterns_text::excerpt::Related;
 use std::alloc::{AllocError, Global};
 
@@ -34,6 +34,7 @@ impl<'a> Walk<'a> {
             span,
             problem,
             related,
+            others: Others::NONE,
         })?;
         Ok(())
     }
