@@ -1,4 +1,6 @@
 //! Code actions: fixes, one by one and all of a rule in the document, and comments that silence a rule in a pattern.
+ghost use Rattle.std.specs.Prelude.{◌≡◌, ◌++◌, take, drop, string_bytes, IfOk, IfSome};
+
 use crate::document::{OpenDocument, Settings};
 use crate::ranges::{Located, Locator, touches};
 use fancy_syntax::span::Span;
@@ -59,7 +61,10 @@ fn end_action(writer: &mut Writer) -> Result<(), AllocError> {
 }
 
 /// The pattern with the part replaced; None if it is no part of the pattern.
-fn with_fix(alloc: Global, pattern: &str, fix: &PartText) -> Result<Option<String>, AllocError> {
+fn with_fix(alloc: Global, pattern: &str, fix: &PartText) -> Result<Option<String>, AllocError>
+    ensures { IfOk result (λ found. IfSome found (λ fixed. string_bytes fixed
+        ≡ take fix.now.span.start pattern.now ++ (string_bytes fix.now.text ++ drop fix.now.span.end pattern.now))) }
+{
     let Some(before) = pattern.get(..fix.span.start) else {
         return Ok(None);
     };
