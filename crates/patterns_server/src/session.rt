@@ -4,7 +4,7 @@ ghost use Rattle.patterns_server.specs.Stage.{status_at};
 ghost use Rattle.patterns_server.specs.declared.session.Flow.TheVariants.{End};
 
 use crate::asked::{About, Refused, WRONG_PARAMS, asked, offsets};
-use crate::capabilities::{encoding_of, write_capabilities};
+use crate::capabilities::{ClientSupport, write_capabilities};
 use crate::folding::write_folds;
 use crate::method::Method;
 use crate::outline::write_symbols;
@@ -77,6 +77,8 @@ pub(crate) struct Session<'a, S, W> {
     system: &'a S,
     out: &'a mut W,
     stage: Stage,
+    /// Whether the client takes symbols that are in others.
+    has_nested_symbols: bool,
     documents: BTreeMap<String, OpenDocument>,
 }
 
@@ -97,6 +99,7 @@ impl<'a, S: System, W: Write> Session<'a, S, W> {
             system,
             out,
             stage: Stage::New,
+            has_nested_symbols: false,
             documents: BTreeMap::new(alloc),
         }
     }
@@ -246,11 +249,12 @@ impl<'a, S: System, W: Write> Session<'a, S, W> {
 
     /// Agrees with the client on what both can do.
     fn initialize(&mut self, id: Id<'_>, params: Option<&Value<'_>>) -> Result<(), RunError> {
-        let encoding = encoding_of(params);
+        let client = ClientSupport::of(params);
         let mut writer = begin_answer(self.given.alloc, id)?;
-        write_capabilities(&mut writer, encoding)?;
+        write_capabilities(&mut writer, client)?;
         let message = finish(writer)?;
-        self.given.encoding = encoding;
+        self.given.encoding = client.encoding;
+        self.has_nested_symbols = client.has_nested_symbols;
         self.stage = Stage::Running;
         self.send(&message)
     }
@@ -279,7 +283,7 @@ impl<'a, S: System, W: Write> Session<'a, S, W> {
         params: Option<&Value<'_>>,
         writer: &mut Writer,
     ) -> Result<Result<(), Refused>, RunError> {
-        let given = self.given;
+        let (given, has_nested_symbols) = (self.given, self.has_nested_symbols);
         if let Method::Initialize | Method::Shutdown = method {
             self.stage = Stage::ShutDown;
             writer.null()?;
@@ -299,11 +303,14 @@ impl<'a, S: System, W: Write> Session<'a, S, W> {
             };
         }
         match asked(given.encoding, text, method, params) {
-            Ok(About::Document) => write_of_document(given, document, method, writer)?,
-            Ok(About::Part(part)) if method == Method::RangeFormatting => {
-                write_formatted(given, document, Some(part), writer)?;
+            Ok(About::Document) if method == Method::Symbols => {
+                write_symbols(given, uri, document, has_nested_symbols, writer)?;
             }
-            Ok(About::Part(part)) => write_actions(given, uri, document, part, writer)?,
+            Ok(About::Document) => write_of_document(given, document, method, writer)?,
+            Ok(About::Part(part)) => write_formatted(given, document, Some(part), writer)?,
+            Ok(About::Actions(part, kinds)) => {
+                write_actions(given, uri, document, part, kinds, writer)?;
+            }
             Ok(About::Position(offset, query)) => {
                 return write_answer(given, uri, document, offset, query, writer);
             }
@@ -462,7 +469,7 @@ fn version_of(params: Option<&Value<'_>>) -> i64 {
         .unwrap_or(0)
 }
 
-/// Writes the result of a method that is about a whole document.
+/// Writes the result of a method that is about a whole document, but for symbols.
 fn write_of_document(
     given: Settings<'_>,
     document: &OpenDocument,
@@ -470,7 +477,6 @@ fn write_of_document(
     writer: &mut Writer,
 ) -> Result<(), RunError> {
     match method {
-        Method::Symbols => write_symbols(given, document, writer),
         Method::FoldingRange => write_folds(given, document, writer),
         Method::SemanticTokens => write_tokens(given, document, writer),
         _ => write_formatted(given, document, None, writer),
