@@ -238,7 +238,8 @@ WRONG = (b"\\x", b"\\u12g", b"\\ud834", b"\\ud834\\u0041", b"\\udd1e", b"\n", b"
 def long_text(rng: random.Random) -> str:
     """A text of more than 1 MiB, of few lines that are patterns."""
     some = "".join(rng.choice(LONG_ALPHABET) for _ in range(rng.randrange(1000, 3000)))
-    return "".join(f"{number}{some * rng.randrange(50, 150)}\n" for number in range(10))
+    count = (110_000 // len(some.encode("utf-8"))) + 1
+    return "".join(f"{number}{some * rng.randrange(count, count + 10)}\n" for number in range(10))
 
 
 def symbols(client: Client, uri: str) -> list:
