@@ -38,8 +38,7 @@ impl Document {
         ensures err { OnErr result (self.new ≡ self.old) }
     {
         let text = with_changes(alloc, encoding, self.text.as_str(), changes)?;
-        self.version = version;
-        Ok(mem::replace(&mut self.text, text))
+        Ok(self.replace(version, text))
     }
 
     /// Makes the text, which leads to this version, the one of the document, and returns the text before.
