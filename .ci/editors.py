@@ -1,6 +1,6 @@
 """Editors as clients of `patterns server`, for `.ci/runs`.
 
-Each opens a file, writes what is reported, fixes what can be fixed in its first line, formats it, and saves it. An editor that is not
+Each opens a file, writes what is reported, fixes what can be fixed in its first line, formats it, fixes all, and saves it. An editor that is not
 installed is left out, and standard error says so. Neovim also edits files at random.
 
 The settings of docs/editors.md for editors without a server are tried too: the `errorformat` of Vim by Neovim, and the matcher of VS Code
@@ -21,12 +21,13 @@ from programs import TOP, Check, Output, Run, decoded, encoded, path_of
 from transcripts import blocks
 
 BEFORE = "a|b|a\n[a]b{1}\n(?:x){0,1}\n"
-AFTER = "a|b\n[a]b{1}\nx?\n"
+AFTER = "a|b\nab\nx?\n"
 REPORTED = """\
 1: `a` is branch 1 already
 2: `[a]` is a class of one character
 2: `b{1}` repeats exactly once
 Fix: `a` is branch 1 already [duplicate-branch]
+Fix all in this file
 """
 
 

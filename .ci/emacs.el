@@ -1,5 +1,5 @@
 ;;; Emacs as a client: `PATTERNS=PROGRAM FILE=FILE emacs --batch -l .ci/emacs.el`, with eglot. It opens the file, writes what is reported, fixes
-;;; what can be fixed in its first line, formats it, and saves it.
+;;; what can be fixed in its first line, formats it, fixes all, and saves it.
 (package-initialize)
 (require 'eglot)
 (require 'flymake)
@@ -24,9 +24,14 @@
                   (lambda (one other) (< (flymake-diagnostic-beg one) (flymake-diagnostic-beg other)))))
   (princ (format "%d: %s\n" (line-number-at-pos (flymake-diagnostic-beg it))
                  (replace-regexp-in-string "\\`patterns [^:]*: \\|\n.*" "" (flymake-diagnostic-text it)))))
-(let ((action (seq-elt (eglot-code-actions (point-min) (line-end-position)) 0)))
-  (princ (concat (plist-get action :title) "\n"))
-  (eglot--apply-workspace-edit (plist-get action :edit)))
+(defun act (end &rest kind)
+  "Does the first action, of this kind if it is given, before the position `end', and writes what it is called."
+  (let ((action (seq-elt (apply #'eglot-code-actions (point-min) end kind) 0)))
+    (princ (concat (plist-get action :title) "\n"))
+    (eglot--apply-workspace-edit (plist-get action :edit))))
+
+(act (line-end-position))
 (eglot-format-buffer)
+(act (point-max) "source.fixAll.patterns")
 (save-buffer)
 (eglot-shutdown (eglot-current-server))

@@ -1,5 +1,5 @@
 -- Neovim as a client: `PATTERNS=PROGRAM FILE=FILE nvim --headless --clean -c 'luafile .ci/neovim.lua'`. It opens the file, writes what is
--- reported, fixes what can be fixed in its first line, formats it, and saves it.
+-- reported, fixes what can be fixed in its first line, formats it, fixes all, and saves it.
 local function run()
   vim.o.swapfile = false
   vim.cmd("edit " .. vim.fn.fnameescape(vim.env.FILE))
@@ -28,6 +28,9 @@ local function run()
   vim.lsp.util.apply_workspace_edit(actions[1].edit, "utf-16")
   local edits = asked("textDocument/formatting", { options = { tabSize = 4, insertSpaces = true } })
   vim.lsp.util.apply_text_edits(edits, buffer, "utf-16")
+  actions = asked("textDocument/codeAction", { range = first, context = { diagnostics = {}, only = { "source.fixAll" } } })
+  io.stdout:write(actions[1].title .. "\n")
+  vim.lsp.util.apply_workspace_edit(actions[1].edit, "utf-16")
   vim.cmd("write")
 end
 

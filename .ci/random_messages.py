@@ -4,7 +4,7 @@ Documents, lines of patterns and grammars of TextMate, are opened, changed at ra
 after a change has to be what is reported when the text is opened that the changes lead to by the protocol, which is computed here. A
 change at a position that a document does not have has to be refused, and the document to stay as it was. Each request has to get one
 answer, and what is no JSON a refusal. Each range has to be in the document, edits not to overlap, and a text that was formatted to stay
-when it is formatted again.
+when it is formatted again. The same of long texts, which are read otherwise: whole, escaped or not, and wrong.
 """
 import json
 import random
@@ -116,7 +116,7 @@ def some_change(rng: random.Random, text: str) -> dict:
     return {"range": dict(zip(("start", "end"), ends)), "text": some_text(rng)}
 
 
-REQUESTS = ("hover", "definition", "references", "documentHighlight", "rename", "formatting", "rangeFormatting", "codeAction",
+REQUESTS = ("hover", "definition", "references", "documentHighlight", "prepareRename", "rename", "formatting", "rangeFormatting", "codeAction",
             "documentSymbol", "foldingRange", "semanticTokens/full", "selectionRange", "unknown")
 
 
@@ -127,7 +127,8 @@ class Client:
         self.process = subprocess.Popen([program, "server"], cwd=folder, stdin=subprocess.PIPE, stdout=subprocess.PIPE)
         self.number = 0
         encodings = ["utf-8"] if utf8 else ["utf-16"]
-        self.ask("initialize", {"capabilities": {"general": {"positionEncodings": encodings}}})
+        symbols = {"documentSymbol": {"hierarchicalDocumentSymbolSupport": True}}
+        self.ask("initialize", {"capabilities": {"general": {"positionEncodings": encodings}, "textDocument": symbols}})
 
     def send(self, **fields) -> None:
         """Sends a message."""
@@ -171,7 +172,8 @@ def some_request(rng: random.Random, uri: str, text: str) -> tuple:
     """A request about a document: its method, and its parameters, of which one may be missing."""
     position = some_position(rng, text)
     ends = {"start": some_position(rng, text), "end": some_position(rng, text)}
-    params = {"textDocument": {"uri": uri}, "position": position, "range": ends, "positions": [position], "newName": "m", "context": {}}
+    params = {"textDocument": {"uri": uri}, "position": position, "range": ends, "positions": [position], "newName": "m",
+              "context": rng.choice(({}, {"only": ["source"]}))}
     for name in rng.sample(sorted(params), rng.randrange(2)):
         del params[name]
     return "textDocument/" + rng.choice(REQUESTS), params
@@ -192,6 +194,8 @@ def request(rng: random.Random, client: Client, document: dict, utf8: bool) -> N
         edited(text, it["edit"]["changes"][uri], utf8)
     if result and method == "textDocument/rename":
         edited(text, result["changes"][uri], utf8)
+    if result and method == "textDocument/prepareRename":
+        edited(text, [{"range": result, "newText": ""}], utf8)
     if rng.random() < 0.05:
         client.garbage(b"{" + some_text(rng).encode("utf-8"))
 
@@ -226,6 +230,49 @@ def sequence(rng: random.Random, client: Client, utf8: bool) -> int:
     return count
 
 
+LONG_ALPHABET = ["a", "b", "é", "𝄞", "\"", "/", "\\d", "\\t"]
+# What is no text of JSON, between quotation marks.
+WRONG = (b"\\x", b"\\u12g", b"\\ud834", b"\\ud834\\u0041", b"\\udd1e", b"\n", b"\xff", b"\xc3")
+
+
+def long_text(rng: random.Random) -> str:
+    """A text of more than 1 MiB, of few lines that are patterns."""
+    some = "".join(rng.choice(LONG_ALPHABET) for _ in range(rng.randrange(1000, 3000)))
+    count = (110_000 // len(some.encode("utf-8"))) + 1
+    return "".join(f"{number}{some * rng.randrange(count, count + 10)}\n" for number in range(10))
+
+
+def symbols(client: Client, uri: str) -> list:
+    """The starts of the lines of a document whose lines are patterns, and where they end, as its symbols have them."""
+    found = client.ask("textDocument/documentSymbol", {"textDocument": {"uri": uri}})[0]["result"]
+    return [(it["name"], it["range"]["end"]) for it in found]
+
+
+def long_texts(rng: random.Random, client: Client, utf8: bool) -> None:
+    """Documents with long texts, which are opened and changed as a whole. A text that is wrong is refused, and changes nothing."""
+    uri = "untitled:a"
+    for is_ascii in (False, True):
+        text, other = long_text(rng), long_text(rng)
+        open_it = {"textDocument": {"uri": uri, "languageId": "patterns", "version": 1, "text": text}}
+        change = {"textDocument": {"uri": uri, "version": 2}, "contentChanges": [{"text": other}]}
+        for method, params, now in (("didOpen", open_it, text), ("didChange", change, other)):
+            sent = json.dumps({"jsonrpc": "2.0", "method": f"textDocument/{method}", "params": params}, ensure_ascii=is_ascii)
+            client.process.stdin.write(framed(sent))
+            lines = now.splitlines()
+            wanted = [(f"{it[:60]}…", {"line": number, "character": sum(units(c, utf8) for c in it)}) for number, it in enumerate(lines)]
+            assert symbols(client, uri) == wanted, (is_ascii, method)
+            start = json.dumps(now, ensure_ascii=is_ascii)[1:-1]
+            at = rng.randrange(len(start))
+            while at > 0 and start[at - 1] not in "ab":
+                at -= 1
+            wrong = sent.replace(start, start[:at] + "WRONG" + start[at:]).encode("utf-8").replace(b"WRONG", rng.choice(WRONG))
+            client.garbage(wrong)
+            assert symbols(client, uri) == wanted, (is_ascii, method, at)
+    answer = client.ask("textDocument/rename", {"textDocument": {"uri": uri}, "position": {"line": 0, "character": 0}, "newName": "m" * (2 << 20)})
+    assert answer[0]["error"]["code"] == -32803
+    client.send(method="textDocument/didClose", params={"textDocument": {"uri": uri}})
+
+
 def session(rng: random.Random) -> bytes:
     """All messages of a client that opens a document, changes it, and asks for something after each change."""
     sent = [{"id": 0, "method": "initialize", "params": {"capabilities": {}}}]
@@ -248,6 +295,7 @@ def played(program: Path, total: int, seed: int) -> str:
     with tempfile.TemporaryDirectory() as folder:
         for utf8 in (False, True):
             client = Client(str(program), folder, utf8)
+            long_texts(rng, client, utf8)
             for _ in range(total // 2):
                 count += sequence(rng, client, utf8)
             client.ask("shutdown", {})

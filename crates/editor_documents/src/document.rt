@@ -38,7 +38,17 @@ impl Document {
         ensures err { OnErr result (self.new ≡ self.old) }
     {
         let text = with_changes(alloc, encoding, self.text.as_str(), changes)?;
+        Ok(self.replace(version, text))
+    }
+
+    /// Makes the text, which leads to this version, the one of the document, and returns the text before.
+    pub fn replace(&mut self, version: i64, text: String) -> String
+        ensures text { self.new.text ≡ text }
+        ensures before { result ≡ self.old.text }
+        ensures version { self.new.version ≡ version }
+        ensures language { self.new.language ≡ self.old.language }
+    {
         self.version = version;
-        Ok(mem::replace(&mut self.text, text))
+        mem::replace(&mut self.text, text)
     }
 }

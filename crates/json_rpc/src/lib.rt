@@ -4,5 +4,6 @@
 pub mod error_code;
 pub mod frame;
 mod header;
+pub mod long_text;
 pub mod message;
 pub mod reply;

@@ -1,9 +1,12 @@
 //! Code actions: fixes, one by one and all of a rule in the document, and comments that silence a rule in a pattern.
+ghost use Rattle.std.specs.Prelude.{◌≡◌, ◌++◌, take, drop, string_bytes, IfOk, IfSome};
+
+use crate::action_kinds::{ActionKinds, FIX_ALL, QUICK_FIX};
 use crate::document::{OpenDocument, Settings};
 use crate::ranges::{Located, Locator, touches};
 use fancy_syntax::span::Span;
 use json::Writer;
-use lint_rules::chosen::Level;
+use lint_rules::chosen::{Chosen, Level};
 use lint_rules::rule::Rule;
 use pattern_files::entry::{Entry, Visitor};
 use pattern_reports::fixes::PartText;
@@ -44,11 +47,24 @@ pub fn end_changes(writer: &mut Writer) -> Result<(), AllocError> {
     writer.end_object()
 }
 
+/// What an action is called, and its kind.
+#[derive(Clone, Copy)]
+struct Heading<'a> {
+    title: &'a str,
+    kind: &'static str,
+}
+
+/// The action that fixes all reports of a document.
+const FIX_ALL_HEADING: Heading<'static> = Heading {
+    title: "Fix all in this file",
+    kind: FIX_ALL,
+};
+
 /// Begins an action: the edits of this document are to be written next.
-fn begin_action(writer: &mut Writer, title: &str, uri: &str) -> Result<(), AllocError> {
+fn begin_action(writer: &mut Writer, heading: Heading<'_>, uri: &str) -> Result<(), AllocError> {
     writer.begin_object()?;
-    write_text(writer, "title", title)?;
-    write_text(writer, "kind", "quickfix")?;
+    write_text(writer, "title", heading.title)?;
+    write_text(writer, "kind", heading.kind)?;
     writer.key("edit")?;
     begin_changes(writer, uri)
 }
@@ -60,7 +76,10 @@ fn end_action(writer: &mut Writer) -> Result<(), AllocError> {
 }
 
 /// The pattern with the part replaced; None if it is no part of the pattern.
-fn with_fix(alloc: Global, pattern: &str, fix: &PartText) -> Result<Option<String>, AllocError> {
+fn with_fix(alloc: Global, pattern: &str, fix: &PartText) -> Result<Option<String>, AllocError>
+    ensures { IfOk result (λ found. IfSome found (λ fixed. string_bytes fixed
+        ≡ take fix.now.span.start pattern.now ++ (string_bytes fix.now.text ++ drop fix.now.span.end pattern.now))) }
+{
     let Some(before) = pattern.get(..fix.span.start) else {
         return Ok(None);
     };
@@ -99,7 +118,8 @@ impl ActionWalk<'_> {
         let Some(part) = self.patterns.fixed_to(located.entry, text)? else {
             return Ok(false);
         };
-        begin_action(self.writer, title, self.uri)?;
+        let kind = QUICK_FIX;
+        begin_action(self.writer, Heading { title, kind }, self.uri)?;
         write_edit(self.writer, located, &part)?;
         end_action(self.writer)?;
         Ok(true)
@@ -165,22 +185,56 @@ impl Visitor for ActionWalk<'_> {
     }
 }
 
-/// Writes the edits that fix all reports of patterns.
+/// Writes the action that fixes all reports of patterns, if one can be fixed.
 #[derive(Drop)]
 struct FixWalk<'d> {
+    heading: Heading<'d>,
+    uri: &'d str,
     locator: Locator<'d>,
     patterns: EditedPatterns,
+    /// Whether an edit is written.
+    is_begun: bool,
     writer: &'d mut Writer,
 }
 
 impl Visitor for FixWalk<'_> {
     fn pattern(&mut self, entry: Entry<'_>) -> Result<(), RunError> {
         let located = self.locator.locate(entry);
-        if let Some(part) = self.patterns.fixed(entry)? {
-            write_edit(self.writer, located, &part)?;
+        let Some(part) = self.patterns.fixed(entry)? else {
+            return Ok(());
+        };
+        if !self.is_begun {
+            begin_action(self.writer, self.heading, self.uri)?;
+            self.is_begun = true;
         }
+        write_edit(self.writer, located, &part)?;
         Ok(())
     }
+}
+
+/// Writes the action that fixes all reports of a document under these levels of rules, if one can be fixed.
+fn write_fixes(
+    given: Settings<'_>,
+    uri: &str,
+    document: &OpenDocument,
+    levels: Chosen,
+    heading: Heading<'_>,
+    writer: &mut Writer,
+) -> Result<(), RunError> {
+    let flags = document.patterns.flags;
+    let mut walk = FixWalk {
+        heading,
+        uri,
+        locator: Locator::new(given.encoding, document.source.text()),
+        patterns: EditedPatterns::new(given.alloc, flags, levels),
+        is_begun: false,
+        writer,
+    };
+    document.source.visit(given, flags, &mut walk)?;
+    if walk.is_begun {
+        end_action(walk.writer)?;
+    }
+    Ok(())
 }
 
 /// Writes the action that fixes all reports of the rule in a document.
@@ -191,25 +245,19 @@ fn write_fix_of_rule(
     rule: Rule,
     writer: &mut Writer,
 ) -> Result<(), RunError> {
-    let alloc = given.alloc;
-    let title = format!(in alloc; "Fix all [{}] in this file", rule.name())?;
-    begin_action(writer, title.as_str(), uri)?;
-    let flags = document.patterns.flags;
+    let title = format!(in given.alloc; "Fix all [{}] in this file", rule.name())?;
     let mut levels = document.patterns.levels;
     levels.set_all(Level::Allow);
     levels.set(rule, Level::Warn);
-    let mut walk = FixWalk {
-        locator: Locator::new(given.encoding, document.source.text()),
-        patterns: EditedPatterns::new(alloc, flags, levels),
-        writer,
+    let heading = Heading {
+        title: title.as_str(),
+        kind: QUICK_FIX,
     };
-    document.source.visit(given, flags, &mut walk)?;
-    end_action(walk.writer)?;
-    Ok(())
+    write_fixes(given, uri, document, levels, heading, writer)
 }
 
-/// Writes the actions for a part of a document, as a list.
-pub fn write_actions(
+/// Writes the actions on the reports in a part of a document.
+fn write_quick_fixes(
     given: Settings<'_>,
     uri: &str,
     document: &mut OpenDocument,
@@ -217,7 +265,6 @@ pub fn write_actions(
     writer: &mut Writer,
 ) -> Result<(), RunError> {
     let alloc = given.alloc;
-    writer.begin_array()?;
     let flags = document.patterns.flags;
     let mut walk = ActionWalk {
         alloc,
@@ -240,6 +287,26 @@ pub fn write_actions(
     } = walk;
     for rule in &rules {
         write_fix_of_rule(given, uri, document, *rule, writer)?;
+    }
+    Ok(())
+}
+
+/// Writes the actions of these kinds for a part of a document, as a list.
+pub fn write_actions(
+    given: Settings<'_>,
+    uri: &str,
+    document: &mut OpenDocument,
+    part: Span,
+    kinds: ActionKinds,
+    writer: &mut Writer,
+) -> Result<(), RunError> {
+    writer.begin_array()?;
+    if kinds.has_quick_fixes {
+        write_quick_fixes(given, uri, document, part, writer)?;
+    }
+    if kinds.has_fix_all {
+        let levels = document.patterns.levels;
+        write_fixes(given, uri, document, levels, FIX_ALL_HEADING, writer)?;
     }
     writer.end_array()?;
     Ok(())

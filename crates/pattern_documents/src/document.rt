@@ -161,20 +161,20 @@ impl DocumentSource {
     }
 }
 
-/// What a client opens.
+/// What a client opens, without its text.
 #[derive(Clone, Copy)]
 pub struct Opened<'a> {
     pub uri: &'a str,
     pub language: &'a str,
     pub version: i64,
-    pub text: &'a str,
 }
 
 impl OpenDocument {
-    /// A document that is opened. What is wrong with its configuration is written to `err`.
+    /// A document that is opened with this text. What is wrong with its configuration is written to `err`.
     pub fn open<S: System>(
         given: Settings<'_>,
         opened: Opened<'_>,
+        text: String,
         system: &S,
         err: &mut Vec<u8>,
     ) -> Result<OpenDocument, RunError> {
@@ -187,7 +187,7 @@ impl OpenDocument {
         let document = Document {
             language: String::from_str(alloc, opened.language)?,
             version: opened.version,
-            text: String::from_str(alloc, opened.text)?,
+            text,
         };
         let source = DocumentSource {
             document,
@@ -220,6 +220,12 @@ impl OpenDocument {
             .change(alloc, encoding, version, changes)?;
         self.known.change(before);
         Ok(())
+    }
+
+    /// Makes the text, which leads to this version, the one of the document.
+    pub fn replace(&mut self, version: i64, text: String) {
+        let before = self.source.document.replace(version, text);
+        self.known.change(before);
     }
 
     /// Reads its configuration again. What is wrong with that is written to `err`.

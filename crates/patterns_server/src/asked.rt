@@ -6,6 +6,7 @@ use editor_documents::position::{Encoding, Position, from_position};
 use fancy_syntax::span::Span;
 use json::Value;
 use json_rpc::error_code::ErrorCode;
+use pattern_documents::action_kinds::ActionKinds;
 use pattern_documents::document::Settings;
 use std::alloc::AllocError;
 
@@ -35,6 +36,8 @@ pub(crate) enum About<'a> {
     Document,
     /// A part of it, in byte offsets.
     Part(Span),
+    /// The actions of these kinds for such a part.
+    Actions(Span, ActionKinds),
     /// What is at a byte offset.
     Position(usize, Query<'a>),
 }
@@ -70,12 +73,27 @@ fn query<'a>(method: Method, params: Option<&Value<'a>>) -> Result<Option<Query<
             }
         }
         Method::Highlight => Query::Highlight,
+        Method::PrepareRename => Query::Name,
         Method::Rename => match params::text(params, &["newName"]) {
             Some(name) => Query::Rename(name),
             None => return Err(WRONG_PARAMS),
         },
         _ => return Ok(None),
     }))
+}
+
+/// The kinds of actions that parameters ask for: fixes of reports, if they do not say.
+fn action_kinds(params: Option<&Value<'_>>) -> ActionKinds {
+    let Some(Value::Array(only)) = params::member(params, &["context", "only"]) else {
+        return ActionKinds::DEFAULT;
+    };
+    let mut kinds = ActionKinds::NONE;
+    for kind in only {
+        if let Some(kind) = kind.as_str() {
+            kinds.add(kind);
+        }
+    }
+    kinds
 }
 
 /// What a request asks about a document that has this text.
@@ -85,7 +103,11 @@ pub(crate) fn asked<'a>(
     method: Method,
     params: Option<&Value<'a>>,
 ) -> Result<About<'a>, Refused> {
-    if let Method::CodeAction | Method::RangeFormatting = method {
+    if method == Method::CodeAction {
+        let part = part(encoding, text, params)?;
+        return Ok(About::Actions(part, action_kinds(params)));
+    }
+    if method == Method::RangeFormatting {
         return Ok(About::Part(part(encoding, text, params)?));
     }
     let Some(query) = query(method, params)? else {

@@ -12,6 +12,7 @@ pub(crate) enum Method {
     Definition,
     References,
     Highlight,
+    PrepareRename,
     Rename,
     SelectionRange,
     Symbols,
@@ -20,7 +21,7 @@ pub(crate) enum Method {
 }
 
 /// The methods with an answer, by their names.
-static METHODS: [(&str, Method); 14] = [
+static METHODS: [(&str, Method); 15] = [
     ("initialize", Method::Initialize),
     ("shutdown", Method::Shutdown),
     ("textDocument/codeAction", Method::CodeAction),
@@ -30,6 +31,7 @@ static METHODS: [(&str, Method); 14] = [
     ("textDocument/definition", Method::Definition),
     ("textDocument/references", Method::References),
     ("textDocument/documentHighlight", Method::Highlight),
+    ("textDocument/prepareRename", Method::PrepareRename),
     ("textDocument/rename", Method::Rename),
     ("textDocument/selectionRange", Method::SelectionRange),
     ("textDocument/documentSymbol", Method::Symbols),

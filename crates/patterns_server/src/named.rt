@@ -15,7 +15,7 @@ use patterns_text::subject::Subject;
 use std::alloc::{AllocError, Global};
 
 /// That there is nothing to rename.
-const NO_NAME: Refused = Refused {
+pub(crate) const NO_NAME: Refused = Refused {
     code: ErrorCode::RequestFailed,
     reason: "no group with a name is there",
 };
@@ -67,12 +67,15 @@ fn name_in_reference(text: &str, name: &str) -> Option<usize> {
     found
 }
 
-/// Adds where the name is in the text at the span, if it is there.
-fn push_name(starts: &mut Vec<usize>, span: Span, offset: Option<usize>) -> Result<(), AllocError> {
-    if let Some(offset) = offset {
-        starts.push(span.start.saturating_add(offset))?;
-    }
-    Ok(())
+/// Where a node has the name of the group that is meant at it, as a byte offset of the pattern.
+fn name_start(node: SpannedNode<'_>, pattern: &str, name: &str) -> Option<usize> {
+    let text = node.text(pattern)?;
+    let offset = if let Expr::Group(_) = node.expr() {
+        name_in_group(text, name)?
+    } else {
+        name_in_reference(text, name)?
+    };
+    Some(node.span().start.saturating_add(offset))
 }
 
 /// Where a pattern has the name of a group, in the order of the text: in the openings of the groups of this name, and in
@@ -82,20 +85,20 @@ fn name_starts(
     pattern: ReadPattern<'_, '_, '_>,
     name: &str,
 ) -> Result<Vec<usize>, AllocError> {
-    let text = pattern.subject.pattern;
     let names = Names::of(alloc, &pattern.parsed.tree)?;
     let mut starts = Vec::new(alloc);
     let mut number = 0usize;
     for node in pattern.nodes {
-        let span = node.span();
-        let part = span.text(text).unwrap_or("");
-        if let Expr::Group(_) = node.expr() {
+        let meant = if let Expr::Group(_) = node.expr() {
             number = number.saturating_add(1);
-            if names.name(number) == Some(name) {
-                push_name(&mut starts, span, name_in_group(part, name))?;
-            }
-        } else if pattern.meant(*node).and_then(|group| names.name(group)) == Some(name) {
-            push_name(&mut starts, span, name_in_reference(part, name))?;
+            Some(number)
+        } else {
+            pattern.meant(*node)
+        };
+        if meant.and_then(|group| names.name(group)) == Some(name)
+            && let Some(start) = name_start(*node, pattern.subject.pattern, name)
+        {
+            starts.push(start)?;
         }
     }
     starts.sort()?;
@@ -161,6 +164,35 @@ fn renamed(
     let text = with_name(alloc, pattern.subject.pattern, &starts, name, new)?;
     let is_same = is_renaming(pattern, text.as_str(), name, new)?;
     Ok(is_same.then_some(text))
+}
+
+/// The part of the pattern that a rename at a node replaces: the name in it, or else in the group that it refers to.
+fn renamed_part(
+    pattern: ReadPattern<'_, '_, '_>,
+    node: SpannedNode<'_>,
+    name: &str,
+) -> Option<Span> {
+    let text = pattern.subject.pattern;
+    let start = match name_start(node, text, name) {
+        Some(start) => start,
+        None => name_start(pattern.group_node(pattern.meant(node)?)?, text, name)?,
+    };
+    let end = start.saturating_add(name.len());
+    Some(Span { start, end })
+}
+
+/// Writes the range of the name that a rename at a node replaces, or null if no group with a name is meant there.
+pub(crate) fn write_name(
+    pattern: ReadPattern<'_, '_, '_>,
+    node: SpannedNode<'_>,
+    writer: &mut Writer,
+) -> Result<(), AllocError> {
+    let names = Names::of(pattern.subject.alloc, &pattern.parsed.tree)?;
+    let name = pattern.meant(node).and_then(|number| names.name(number));
+    match name.and_then(|name| renamed_part(pattern, node, name)) {
+        Some(part) => pattern.located.write_range(writer, part),
+        None => writer.null(),
+    }
 }
 
 /// Writes the change by which the group that is meant at a node gets a new name, or says why there is none.

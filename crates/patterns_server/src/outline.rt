@@ -1,6 +1,8 @@
 //! The groups of a document's patterns, as an outline.
+use crate::query::write_location;
 use fancy_syntax::expr::Expr;
 use fancy_syntax::span::Span;
+use fancy_syntax::spanned::SpannedTree;
 use json::Writer;
 use pattern_documents::document::{OpenDocument, Settings};
 use pattern_documents::ranges::{Located, Locator};
@@ -31,78 +33,120 @@ fn symbol_name(alloc: Global, pattern: &str) -> Result<String, AllocError> {
     format!(in alloc; "{}{more}", Shown(start.as_str()))
 }
 
-/// Begins the symbol of a part of a pattern.
-fn begin_symbol(
-    writer: &mut Writer,
-    located: Located<'_, '_>,
-    name: &str,
-    kind: u64,
-    span: Span,
-) -> Result<(), AllocError> {
-    writer.begin_object()?;
+/// Writes the name and the kind of a symbol.
+fn write_named(writer: &mut Writer, name: &str, kind: u64) -> Result<(), AllocError> {
     write_text(writer, "name", name)?;
-    write_number(writer, "kind", kind)?;
-    for key in ["range", "selectionRange"] {
-        writer.key(key)?;
-        located.write_range(writer, span)?;
-    }
-    Ok(())
+    write_number(writer, "kind", kind)
 }
 
 /// Writes the symbols of patterns.
 #[derive(Drop)]
 struct OutlineWalk<'d> {
     alloc: Global,
+    uri: &'d str,
+    /// Whether the symbols of groups are in those of what is around them. Else they follow these.
+    is_nested: bool,
     locator: Locator<'d>,
     patterns: &'d EditedPatterns,
     writer: &'d mut Writer,
 }
 
+impl OutlineWalk<'_> {
+    /// Writes the symbol of a part of a pattern, whose end is to be written after the symbols in it.
+    fn begin(
+        &mut self,
+        located: Located<'_, '_>,
+        name: &str,
+        kind: u64,
+        span: Span,
+    ) -> Result<(), AllocError> {
+        self.writer.begin_object()?;
+        write_named(self.writer, name, kind)?;
+        if !self.is_nested {
+            self.writer.key("location")?;
+            write_location(self.writer, self.uri, located, span)?;
+            return self.writer.end_object();
+        }
+        for key in ["range", "selectionRange"] {
+            self.writer.key(key)?;
+            located.write_range(self.writer, span)?;
+        }
+        self.writer.key("children")?;
+        self.writer.begin_array()
+    }
+
+    /// Writes the end of a symbol.
+    fn end(&mut self) -> Result<(), AllocError> {
+        if self.is_nested {
+            self.writer.end_array()?;
+            self.writer.end_object()?;
+        }
+        Ok(())
+    }
+
+    /// Writes the ends of the symbols whose parts end before the byte offset. Those of the parts that are begun are given.
+    fn end_before(&mut self, ends: &mut Vec<usize>, offset: usize) -> Result<(), AllocError> {
+        for _ in 0..ends.len() {
+            if ends.last().is_some_and(|end| offset < *end) {
+                break;
+            }
+            ends.pop();
+            self.end()?;
+        }
+        Ok(())
+    }
+
+    /// Writes the symbols of a pattern and of its groups.
+    fn write(&mut self, located: Located<'_, '_>, parsed: &SpannedTree) -> Result<(), AllocError> {
+        let (alloc, pattern) = (self.alloc, located.entry.pattern);
+        let end = pattern.len();
+        let name = symbol_name(alloc, pattern)?;
+        self.begin(located, name.as_str(), CONSTANT, Span { start: 0, end })?;
+        let mut ends = vec![in alloc; end]?;
+        let names = Names::of(alloc, &parsed.tree)?;
+        let mut number = 0usize;
+        for node in &nodes_of(alloc, parsed)? {
+            if let Expr::Group(_) = node.expr() {
+                let span = node.span();
+                self.end_before(&mut ends, span.start)?;
+                number = number.saturating_add(1);
+                let group = format!(in alloc; "{}", names.group(number))?;
+                self.begin(located, group.as_str(), KEY, span)?;
+                ends.push(span.end)?;
+            }
+        }
+        self.end_before(&mut ends, usize::MAX)
+    }
+}
+
 impl Visitor for OutlineWalk<'_> {
     fn pattern(&mut self, entry: Entry<'_>) -> Result<(), RunError> {
-        let alloc = self.alloc;
         let located = self.locator.locate(entry);
         // The name of a symbol may not be blank.
         if entry.pattern.trim().is_empty() {
             return Ok(());
         }
-        let subject = self.patterns.subject(entry);
-        let Ok(parsed) = subject.parse()? else {
-            return Ok(());
-        };
-        let whole = Span {
-            start: 0,
-            end: entry.pattern.len(),
-        };
-        let name = symbol_name(alloc, entry.pattern)?;
-        begin_symbol(self.writer, located, name.as_str(), CONSTANT, whole)?;
-        self.writer.key("children")?;
-        self.writer.begin_array()?;
-        let names = Names::of(alloc, &parsed.tree)?;
-        let mut number = 0usize;
-        for node in &nodes_of(alloc, &parsed)? {
-            if let Expr::Group(_) = node.expr() {
-                number = number.saturating_add(1);
-                let group = format!(in alloc; "{}", names.group(number))?;
-                begin_symbol(self.writer, located, group.as_str(), KEY, node.span())?;
-                self.writer.end_object()?;
-            }
+        if let Ok(parsed) = self.patterns.subject(entry).parse()? {
+            self.write(located, &parsed)?;
         }
-        self.writer.end_array()?;
-        self.writer.end_object()?;
         Ok(())
     }
 }
 
-/// Writes a symbol for each valid pattern of a document that is not blank, with its groups.
+/// Writes a symbol for each valid pattern of a document that is not blank, and for each of its groups: in the symbols of what
+/// is around them if `is_nested` says so, else one after another.
 pub(crate) fn write_symbols(
     given: Settings<'_>,
+    uri: &str,
     document: &OpenDocument,
+    is_nested: bool,
     writer: &mut Writer,
 ) -> Result<(), RunError> {
     writer.begin_array()?;
     let mut walk = OutlineWalk {
         alloc: given.alloc,
+        uri,
+        is_nested,
         locator: Locator::new(given.encoding, document.source.text()),
         patterns: &document.patterns,
         writer,

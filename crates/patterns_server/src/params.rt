@@ -56,6 +56,20 @@ fn change<'a>(value: &Value<'a>) -> Option<Change<'a>> {
     }
 }
 
+/// The text that a document is changed to, if that is its only change.
+pub(crate) fn whole_text<'a>(params: Option<&Value<'a>>) -> Option<&'a str> {
+    let Value::Array(changes) = member(params, &["contentChanges"])? else {
+        return None;
+    };
+    let [change] = changes.as_slice() else {
+        return None;
+    };
+    match change.get("range") {
+        Some(_) => None,
+        None => change.get("text")?.as_str(),
+    }
+}
+
 /// The changes of a document; None if one is no change.
 pub(crate) fn changes<'a>(
     alloc: Global,

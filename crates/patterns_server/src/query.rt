@@ -1,6 +1,6 @@
 //! What is asked about the part of a pattern at a position.
 use crate::asked::Refused;
-use crate::named::write_renamed;
+use crate::named::{NO_NAME, write_name, write_renamed};
 use class_meaning::characters_of;
 use editor_documents::cursor::Cursor;
 use fancy_lex::flags::Flags;
@@ -38,6 +38,8 @@ pub(crate) enum Query<'a> {
     Highlight,
     /// The parts around the position, the smallest one first.
     Selection,
+    /// The part that a rename replaces: the name of the group.
+    Name,
     /// The edits by which the group gets this name.
     Rename(&'a str),
 }
@@ -86,11 +88,16 @@ impl<'t> ReadPattern<'_, '_, 't> {
                 end: self.subject.pattern.len(),
             });
         }
+        Some(self.group_node(number)?.span())
+    }
+
+    /// The group of this number, which is at least 1.
+    pub(crate) fn group_node(self, number: usize) -> Option<SpannedNode<'t>> {
         let groups = self
             .nodes
             .iter()
             .filter(|node| matches!(node.expr(), Expr::Group(_)));
-        Some(groups.skip(number.saturating_sub(1)).next()?.span())
+        groups.skip(number.saturating_sub(1)).next().copied()
     }
 
     /// The group that is meant at a node: the group itself, or the one that a reference refers to.
@@ -129,6 +136,14 @@ impl<'t> ReadPattern<'_, '_, 't> {
         Ok(path)
     }
 
+    /// The number of the innermost group around the smallest node of the path.
+    fn group_around(self, path: &[(usize, SpannedNode<'t>)]) -> Option<usize> {
+        let (_, around) = path.split_last()?;
+        let is_group = |node: &SpannedNode<'_>| matches!(node.expr(), Expr::Group(_));
+        let (_, group) = around.iter().rfind(|(_, node)| is_group(node))?;
+        self.number(*group)
+    }
+
     /// What is known of the matches of the node of this index.
     fn facts(self, index: usize) -> Result<FactWords, AllocError> {
         let rows = FactRows::of(self.subject, true, self.parsed)?;
@@ -157,13 +172,14 @@ fn describe(
     Ok(())
 }
 
-/// Writes what is at the node of this index, in words, and how long its matches are, if that is known.
-fn write_hover(
+/// What is at the smallest node of the path, which has this index, in words: how long its matches are, if that is known, and
+/// which group is around it, if one is.
+fn hover_words(
     pattern: ReadPattern<'_, '_, '_>,
+    path: &[(usize, SpannedNode<'_>)],
     index: usize,
     node: SpannedNode<'_>,
-    writer: &mut Writer,
-) -> Result<(), RunError> {
+) -> Result<Vec<u8>, RunError> {
     let alloc = pattern.subject.alloc;
     let names = Names::of(alloc, &pattern.parsed.tree)?;
     let mut words = Vec::new(alloc);
@@ -177,6 +193,21 @@ fn write_hover(
     if facts.0.is_some() {
         write!(words, "\nmatches: {facts}")?;
     }
+    if let Some(number) = pattern.group_around(path) {
+        write!(words, "\nin {}", names.group(number))?;
+    }
+    Ok(words)
+}
+
+/// Writes what is at the smallest node of the path, which has this index.
+fn write_hover(
+    pattern: ReadPattern<'_, '_, '_>,
+    path: &[(usize, SpannedNode<'_>)],
+    index: usize,
+    node: SpannedNode<'_>,
+    writer: &mut Writer,
+) -> Result<(), RunError> {
+    let words = hover_words(pattern, path, index, node)?;
     writer.begin_object()?;
     writer.key("contents")?;
     writer.begin_object()?;
@@ -190,16 +221,16 @@ fn write_hover(
 }
 
 /// Writes where a part of a pattern is, with its document.
-fn write_location(
-    pattern: ReadPattern<'_, '_, '_>,
-    uri: &str,
-    span: Span,
+pub(crate) fn write_location(
     writer: &mut Writer,
+    uri: &str,
+    located: Located<'_, '_>,
+    span: Span,
 ) -> Result<(), AllocError> {
     writer.begin_object()?;
     write_text(writer, "uri", uri)?;
     writer.key("range")?;
-    pattern.located.write_range(writer, span)?;
+    located.write_range(writer, span)?;
     writer.end_object()
 }
 
@@ -211,7 +242,7 @@ fn write_definition(
     writer: &mut Writer,
 ) -> Result<(), AllocError> {
     match pattern.meant(node).and_then(|number| pattern.group(number)) {
-        Some(span) => write_location(pattern, uri, span, writer),
+        Some(span) => write_location(writer, uri, pattern.located, span),
         None => writer.null(),
     }
 }
@@ -229,10 +260,10 @@ fn write_references(
         if let Some(span) = pattern.group(number)
             && has_group
         {
-            write_location(pattern, uri, span, writer)?;
+            write_location(writer, uri, pattern.located, span)?;
         }
         for span in &pattern.references(pattern.subject.alloc, number)? {
-            write_location(pattern, uri, *span, writer)?;
+            write_location(writer, uri, pattern.located, *span)?;
         }
     }
     writer.end_array()
@@ -307,13 +338,14 @@ impl QueryWalk<'_, '_> {
         };
         let (query, uri, writer) = (self.query, self.uri, &mut *self.writer);
         match query {
-            Query::Hover => write_hover(pattern, index, node, writer)?,
+            Query::Hover => write_hover(pattern, &path, index, node, writer)?,
             Query::Definition => write_definition(pattern, uri, node, writer)?,
             Query::References { has_group } => {
                 write_references(pattern, uri, node, has_group, writer)?;
             }
             Query::Highlight => write_highlights(pattern, node, writer)?,
             Query::Selection => write_selection(pattern, &path, writer)?,
+            Query::Name => write_name(pattern, node, writer)?,
             Query::Rename(name) => {
                 let renamed = write_renamed(pattern, uri, node, name, self.patterns, writer)?;
                 self.refused = renamed.err();
@@ -391,6 +423,9 @@ pub(crate) fn write_answer<'q>(
         .source
         .visit(given, document.patterns.flags, &mut walk)?;
     if !walk.is_answered {
+        if let Query::Rename(_) = query {
+            return Ok(Err(NO_NAME));
+        }
         write_nothing(given, document.source.text(), offset, query, walk.writer)?;
     }
     match walk.refused {

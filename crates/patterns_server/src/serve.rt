@@ -35,7 +35,7 @@ pub fn serve<'a, S: System, R: Read, W: Write, E: Write>(
                 return 1;
             }
         };
-        match session.take(&message) {
+        match session.take(message) {
             Ok(Flow::GoOn) => {}
             Ok(Flow::End(status)) => return status,
             Err(RunError::Memory(_)) => {

@@ -4,7 +4,7 @@ ghost use Rattle.patterns_server.specs.Stage.{status_at};
 ghost use Rattle.patterns_server.specs.declared.session.Flow.TheVariants.{End};
 
 use crate::asked::{About, Refused, WRONG_PARAMS, asked, offsets};
-use crate::capabilities::{encoding_of, write_capabilities};
+use crate::capabilities::{ClientSupport, write_capabilities};
 use crate::folding::write_folds;
 use crate::method::Method;
 use crate::outline::write_symbols;
@@ -17,6 +17,7 @@ use editor_documents::position::Encoding;
 use json::{Scratch, Value, Writer};
 use json_rpc::error_code::ErrorCode;
 use json_rpc::frame::write_message;
+use json_rpc::long_text::{PLACEHOLDER, Shortened, unescaped, without_long_text};
 use json_rpc::message::{Id, Message};
 use json_rpc::reply::{begin_answer, begin_notification, finish, refusal};
 use pattern_documents::actions::write_actions;
@@ -60,6 +61,12 @@ const NO_DOCUMENT: Refused = Refused {
     reason: "no such document is open",
 };
 
+/// Where parameters have the text of a document that is opened.
+static OPENED_TEXT: [&str; 2] = ["textDocument", "text"];
+
+/// Why a message is refused that is not JSON.
+const NOT_JSON: &str = "the message is not JSON";
+
 /// Why a request is refused for which there is not enough memory.
 const OUT_OF_MEMORY: &str = "out of memory";
 
@@ -70,6 +77,8 @@ pub(crate) struct Session<'a, S, W> {
     system: &'a S,
     out: &'a mut W,
     stage: Stage,
+    /// Whether the client takes symbols that are in others.
+    has_nested_symbols: bool,
     documents: BTreeMap<String, OpenDocument>,
 }
 
@@ -90,6 +99,7 @@ impl<'a, S: System, W: Write> Session<'a, S, W> {
             system,
             out,
             stage: Stage::New,
+            has_nested_symbols: false,
             documents: BTreeMap::new(alloc),
         }
     }
@@ -150,7 +160,40 @@ impl<'a, S: System, W: Write> Session<'a, S, W> {
     }
 
     /// Does what a message asks for.
-    pub(crate) fn take(&mut self, message: &[u8]) -> Result<Flow, RunError>
+    pub(crate) fn take(&mut self, message: Vec<u8>) -> Result<Flow, RunError>
+        ensures status { IfOk result (λ flow. (status : ℕ) → flow ≡ End status → status ≤ 1) }
+    {
+        if self.stage == Stage::Running
+            && let Ok(Some(short)) = without_long_text(self.given.alloc, &message)
+        {
+            return self.take_shortened(message, &short);
+        }
+        self.take_json(&message)
+    }
+
+    /// The same of a message that has a long text. If that is all the text of a document, the message becomes the document.
+    fn take_shortened(&mut self, message: Vec<u8>, short: &Shortened) -> Result<Flow, RunError>
+        ensures status { IfOk result (λ flow. (status : ℕ) → flow ≡ End status → status ≤ 1) }
+    {
+        let alloc = self.given.alloc;
+        let mut scratch = Scratch::new(alloc);
+        let Ok(value) = Value::from_slice(alloc, &short.rest, &mut scratch) else {
+            return self.take_json(&message);
+        };
+        match Message::of(&value) {
+            Message::Notification { method, params } if has_whole_text(method, params) => {
+                match unescaped(alloc, message, short.text)? {
+                    Some(text) => self.take_text(method, params, text)?,
+                    None => self.refuse(None, ErrorCode::Parse, NOT_JSON)?,
+                }
+                Ok(Flow::GoOn)
+            }
+            _ => self.take_json(&message),
+        }
+    }
+
+    /// Does what a message asks for, which is read as a whole.
+    fn take_json(&mut self, message: &[u8]) -> Result<Flow, RunError>
         ensures status { IfOk result (λ flow. (status : ℕ) → flow ≡ End status → status ≤ 1) }
     {
         let alloc = self.given.alloc;
@@ -162,7 +205,7 @@ impl<'a, S: System, W: Write> Session<'a, S, W> {
                 Ok(Flow::GoOn)
             }
             Err(_) => {
-                self.refuse(None, ErrorCode::Parse, "the message is not JSON")?;
+                self.refuse(None, ErrorCode::Parse, NOT_JSON)?;
                 Ok(Flow::GoOn)
             }
         }
@@ -206,11 +249,12 @@ impl<'a, S: System, W: Write> Session<'a, S, W> {
 
     /// Agrees with the client on what both can do.
     fn initialize(&mut self, id: Id<'_>, params: Option<&Value<'_>>) -> Result<(), RunError> {
-        let encoding = encoding_of(params);
+        let client = ClientSupport::of(params);
         let mut writer = begin_answer(self.given.alloc, id)?;
-        write_capabilities(&mut writer, encoding)?;
+        write_capabilities(&mut writer, client)?;
         let message = finish(writer)?;
-        self.given.encoding = encoding;
+        self.given.encoding = client.encoding;
+        self.has_nested_symbols = client.has_nested_symbols;
         self.stage = Stage::Running;
         self.send(&message)
     }
@@ -239,7 +283,7 @@ impl<'a, S: System, W: Write> Session<'a, S, W> {
         params: Option<&Value<'_>>,
         writer: &mut Writer,
     ) -> Result<Result<(), Refused>, RunError> {
-        let given = self.given;
+        let (given, has_nested_symbols) = (self.given, self.has_nested_symbols);
         if let Method::Initialize | Method::Shutdown = method {
             self.stage = Stage::ShutDown;
             writer.null()?;
@@ -259,11 +303,14 @@ impl<'a, S: System, W: Write> Session<'a, S, W> {
             };
         }
         match asked(given.encoding, text, method, params) {
-            Ok(About::Document) => write_of_document(given, document, method, writer)?,
-            Ok(About::Part(part)) if method == Method::RangeFormatting => {
-                write_formatted(given, document, Some(part), writer)?;
+            Ok(About::Document) if method == Method::Symbols => {
+                write_symbols(given, uri, document, has_nested_symbols, writer)?;
             }
-            Ok(About::Part(part)) => write_actions(given, uri, document, part, writer)?,
+            Ok(About::Document) => write_of_document(given, document, method, writer)?,
+            Ok(About::Part(part)) => write_formatted(given, document, Some(part), writer)?,
+            Ok(About::Actions(part, kinds)) => {
+                write_actions(given, uri, document, part, kinds, writer)?;
+            }
             Ok(About::Position(offset, query)) => {
                 return write_answer(given, uri, document, offset, query, writer);
             }
@@ -279,7 +326,10 @@ impl<'a, S: System, W: Write> Session<'a, S, W> {
         params: Option<&Value<'_>>,
     ) -> Result<(), RunError> {
         match method {
-            "textDocument/didOpen" => self.open(params),
+            "textDocument/didOpen" => match params::text(params, &OPENED_TEXT) {
+                Some(text) => self.open(params, String::from_str(self.given.alloc, text)?),
+                None => Ok(()),
+            },
             "textDocument/didChange" => self.change(params),
             "textDocument/didSave" => self.saved(params),
             "textDocument/didClose" => self.close(params),
@@ -298,23 +348,32 @@ impl<'a, S: System, W: Write> Session<'a, S, W> {
         self.send(&message)
     }
 
-    /// Opens a document.
-    fn open(&mut self, params: Option<&Value<'_>>) -> Result<(), RunError> {
+    /// Does what a notification asks for that has this text as all the text of a document.
+    fn take_text(
+        &mut self,
+        method: &str,
+        params: Option<&Value<'_>>,
+        text: String,
+    ) -> Result<(), RunError> {
+        match method {
+            "textDocument/didOpen" => self.open(params, text),
+            _ => self.replace(params, text),
+        }
+    }
+
+    /// Opens a document that has this text.
+    fn open(&mut self, params: Option<&Value<'_>>, text: String) -> Result<(), RunError> {
         let alloc = self.given.alloc;
-        let (Some(uri), Some(text)) = (
-            params::uri(params),
-            params::text(params, &["textDocument", "text"]),
-        ) else {
+        let Some(uri) = params::uri(params) else {
             return Ok(());
         };
         let opened = Opened {
             uri,
             language: params::text(params, &["textDocument", "languageId"]).unwrap_or(""),
             version: version_of(params),
-            text,
         };
         let mut errors = Vec::new(alloc);
-        let document = OpenDocument::open(self.given, opened, self.system, &mut errors)?;
+        let document = OpenDocument::open(self.given, opened, text, self.system, &mut errors)?;
         self.documents
             .insert(String::from_str(alloc, uri)?, document)?;
         self.show_errors(&errors)?;
@@ -341,6 +400,18 @@ impl<'a, S: System, W: Write> Session<'a, S, W> {
             }
             Err(ChangeError::Memory(error)) => Err(RunError::Memory(error)),
         }
+    }
+
+    /// Makes the text the one of a document.
+    fn replace(&mut self, params: Option<&Value<'_>>, text: String) -> Result<(), RunError> {
+        let Some(uri) = params::uri(params) else {
+            return Ok(());
+        };
+        let Some(document) = self.documents.get_mut(uri) else {
+            return Ok(());
+        };
+        document.replace(version_of(params), text);
+        self.report(uri)
     }
 
     /// Reads the configurations of all documents again, and reports on them.
@@ -381,6 +452,16 @@ impl<'a, S: System, W: Write> Session<'a, S, W> {
     }
 }
 
+/// Whether the placeholder of a long text is all the text of a document, which the notification opens or changes.
+fn has_whole_text(method: &str, params: Option<&Value<'_>>) -> bool {
+    let text = match method {
+        "textDocument/didOpen" => params::text(params, &OPENED_TEXT),
+        "textDocument/didChange" => params::whole_text(params),
+        _ => None,
+    };
+    text == Some(PLACEHOLDER)
+}
+
 /// The version that parameters give a document; 0 if they give none.
 fn version_of(params: Option<&Value<'_>>) -> i64 {
     params::member(params, &["textDocument", "version"])
@@ -388,7 +469,7 @@ fn version_of(params: Option<&Value<'_>>) -> i64 {
         .unwrap_or(0)
 }
 
-/// Writes the result of a method that is about a whole document.
+/// Writes the result of a method that is about a whole document, but for symbols.
 fn write_of_document(
     given: Settings<'_>,
     document: &OpenDocument,
@@ -396,7 +477,6 @@ fn write_of_document(
     writer: &mut Writer,
 ) -> Result<(), RunError> {
     match method {
-        Method::Symbols => write_symbols(given, document, writer),
         Method::FoldingRange => write_folds(given, document, writer),
         Method::SemanticTokens => write_tokens(given, document, writer),
         _ => write_formatted(given, document, None, writer),
