@@ -1,4 +1,8 @@
 //! Names of groups, and new ones in their place.
+ghost use Rattle.std.specs.Prelude.{◌≡◌};
+ghost use Rattle.std.specs.Bool.{OnTrue};
+ghost use Rattle.fancy_syntax.specs.View.{view};
+
 use crate::asked::Refused;
 use crate::query::ReadPattern;
 use fancy_syntax::expr::Expr;
@@ -126,14 +130,16 @@ fn with_name(
 
 /// Whether a pattern has become this one by another name of groups: the tree is the same, and the groups of the old name, and
 /// only those, have the new one.
-fn is_renamed(old: &ExprTree, new: &ExprTree, name: &str, new_name: &str) -> bool {
+fn is_renamed(old: &ExprTree, new: &ExprTree, name: &str, new_name: &str) -> bool
+    ensures tree { OnTrue result (view new.now.expr ≡ view old.now.expr) }
+{
     let (Some(groups), Some(new_groups)) = (
         old.named_groups.get(name),
         new.named_groups.get(new_name),
     ) else {
         return false;
     };
-    old.expr == new.expr
+    new.expr == old.expr
         && old.named_groups.len() == new.named_groups.len()
         && old.named_groups.get(new_name).is_none()
         && groups.as_slice() == new_groups.as_slice()
