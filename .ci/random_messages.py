@@ -190,6 +190,7 @@ def request(rng: random.Random, client: Client, document: dict, utf8: bool) -> N
         client.send(method="textDocument/didOpen", params={"textDocument": fresh})
         again = client.ask(method, {**params, "textDocument": {"uri": "untitled:c"}})[0]
         client.send(method="textDocument/didClose", params={"textDocument": {"uri": "untitled:c"}})
+        client.reports()
         assert method != "textDocument/formatting" or again["result"] == [], (text, result, again)
     for it in result or [] if method == "textDocument/codeAction" else []:
         edited(text, it["edit"]["changes"][uri], utf8)
