@@ -39,14 +39,10 @@ nothing_shorter d k l m left s u a v e h b g i same within =
 pub condition_begins : (d : ℕ) (s t : State) (a : declared.AtomStart) → atom_start d s ≡ view_start a t →
     ((w : Text) → condition_text s ≡ Some w → HasConditionAt a (reach_of w)) →
     HasConditionAt a (condition_span s t).start
-condition_begins d s t start.Nothing seen f = tt
-condition_begins d s t (start.Read atom) seen f = tt
-condition_begins d s t (start.Group kind) seen f = tt
-condition_begins d s t start.Condition seen f = tt
 condition_begins d s t (start.Body c position) seen f =
     let (w, is, _, _) = subst (HasConditionText (condition_text s)) seen (condition_there d s) in
     f w is ∙ ap (λ o. choose o reach_of (reach_of s.rest)) (sym is)
-condition_begins d s t start.AbsentBranch seen f = tt
+condition_begins d s t _ seen f = tt
 
 -- a tree turns as the last of all does, if it is put in its place
 pub turns_last : (r : Result (Unit {0}) ReadError) (all below : List Tree) (t : Tree) (s : State) (o : Outcome Tree) →
