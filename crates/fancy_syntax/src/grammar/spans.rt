@@ -318,23 +318,6 @@ impl Spans {
         Ok(())
     }
 
-    /// Opens a group of one alternation, whose contents begin at `inside`.
-    #[inline(always)]
-    fn open_group(
-        &mut self,
-        alloc: Global,
-        kind: GroupKind,
-        start: State,
-        inside: State,
-    ) -> Result<(), AllocError>
-        ensures { OnOk result (log_of self.new ≡
-            spec.group_opened (group_kind kind.entry) (state start.entry) (state inside.entry) (log_of self.old)) }
-    {
-        self.open_atom(reach(start.rest), reach(inside.rest))?;
-        self.pass_opening(kind, start, inside)?;
-        self.pass_start(alloc, start, reach(inside.rest))
-    }
-
     /// Opens any other atom that holds branches. Its first part begins at the reach.
     #[inline(always)]
     fn open(&mut self, alloc: Global, start: State, inside: Reach) -> Result<(), AllocError>
@@ -496,7 +479,11 @@ impl Spanning for Spans {
                 self.record_token(start, atom, end)?;
                 self.pass_start(alloc, start, reach(end.rest))
             }
-            AtomStart::Group(kind) => self.open_group(alloc, *kind, start, end),
+            AtomStart::Group(kind) => {
+                self.open_atom(reach(start.rest), reach(end.rest))?;
+                self.pass_opening(*kind, start, end)?;
+                self.pass_start(alloc, start, reach(end.rest))
+            }
             AtomStart::Condition | AtomStart::AbsentBranch => {
                 self.open(alloc, start, reach(end.rest))
             }
