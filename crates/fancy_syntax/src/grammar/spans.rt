@@ -1,5 +1,5 @@
 //! The spans of the nodes of a raw tree, each tree in preorder, and what no node has.
-ghost use Rattle.std.specs.Prelude.{◌≡◌, ◌+◌, true, false, [], ◌∷◌, if◌then◌else◌, chars, map, IfOk, OnOk};
+ghost use Rattle.std.specs.Prelude.{◌≡◌, ◌+◌, true, false, [], ◌∷◌, chars, map, IfOk, OnOk};
 ghost use Rattle.fancy_grammar.specs.State.{done};
 ghost use Rattle.fancy_syntax.specs.Log as spec;
 ghost use Rattle.fancy_syntax.specs.Log.{layout_passed};
@@ -366,17 +366,6 @@ impl Spans {
         Ok(())
     }
 
-    /// Ends a stopper, or a clear, whose branch leaves no node.
-    fn close_stopper(&mut self, is_clear: bool, end: Reach) -> Result<(), AllocError>
-        ensures { OnOk result (log_of self.new ≡ spec.atom_closed end false
-            (if is_clear then spec.part_dropped (log_of self.old) else log_of self.old)) }
-    {
-        if is_clear {
-            self.recorded.truncate(self.open.branches);
-        }
-        self.close(end, false)
-    }
-
     /// Separates the branches of a conditional's body, which ends there. If it is an Alt, its node is replaced by its first
     /// branch and the choice among the others; otherwise an Empty at its end is the second branch.
     fn end_body(&mut self, body: &Expr, end: usize) -> Result<(), AllocError>
@@ -566,7 +555,13 @@ impl Spanning for Spans {
             OpenPart::Top | OpenPart::Condition => Ok(()),
             OpenPart::Group { kind, .. } => self.close_group(*kind, rest),
             OpenPart::Body { .. } => self.close_conditional(tree, paren, reach(rest)),
-            OpenPart::First => self.close_stopper(is_empty(tree), reach(rest)),
+            OpenPart::First => {
+                // The branch of a clear leaves no node.
+                if is_empty(tree) {
+                    self.recorded.truncate(self.open.branches);
+                }
+                self.close(reach(rest), false)
+            }
             OpenPart::Second(_) => self.close(reach(rest), false),
         }
     }
