@@ -14,8 +14,8 @@ EndsWith t end = (w : Text) × (t ≡ w ++ end)
 abbrev pub before : Text → Text → Text
 before t end = take (length t - length end) t
 
--- the text with a new one in the place of the range: it is none if the range ends before it starts, or if the text does not
--- have one of its positions
+-- the text with the range replaced by a new text; there is no such text if the range ends before it starts, or if the text
+-- does not have one of its positions
 abbrev pub with_part : Encoding → Range → Text → Text → Option Text
 with_part e range new t =
     if is_after range.start range.end then None

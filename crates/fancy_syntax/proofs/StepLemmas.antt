@@ -5,7 +5,7 @@ use Rattle.std.proofs.Math.Nat.{eq-or-lt_of_le}
 use Rattle.fancy_lex.specs.Reading.{choose}
 use Rattle.fancy_lex.specs.Text.{Text, bytes, reach_of}
 use Rattle.fancy_lex.specs.declared.error.ReadError.{ReadError}
-use Rattle.fancy_grammar.specs.AtomStart.{nothing, body, atom_start}
+use Rattle.fancy_grammar.specs.AtomStart.{nothing, atom_start}
 use Rattle.fancy_grammar.specs.Quantified.{quants}
 use Rattle.fancy_grammar.specs.Spans.{condition_text, condition_span}
 use Rattle.fancy_grammar.specs.State.{ends, State, at, Outcome, done}
@@ -13,7 +13,9 @@ use Rattle.fancy_grammar.specs.Tree.{Tree, empty}
 use Rattle.fancy_grammar.proofs.AtomStartLemmas.{nothing_repeats}
 use Rattle.fancy_grammar.proofs.SpansCondition.{HasConditionText, condition_there}
 use Rattle.fancy_syntax.specs.Machine.{TurnsLast}
-use Rattle.fancy_syntax.specs.Parsed.{Turns}
+use Rattle.fancy_syntax.specs.Parsed.{Turns, HasConditionAt, view_start}
+use Rattle.fancy_syntax.specs.declared.grammar.atom_start.AtomStart as declared
+use Rattle.fancy_syntax.specs.declared.grammar.atom_start.AtomStart.TheVariants as start
 
 -- if there is no atom and the branch does not end, no piece is read
 nothing_stops : (d : ℕ) (s : State) (u : Text) (a : Tree) (v : State) → atom_start d (at s u) ≡ nothing →
@@ -34,11 +36,13 @@ nothing_shorter d k l m left s u a v e h b g i same within =
         (subst (λ x. quants d x empty (at s u) ≡ done a v) at_start g))
 
 -- a condition that is no alternation begins at its text
-pub condition_begins : (d : ℕ) (s t : State) (c : Tree) (start : ℕ) → atom_start d s ≡ body c t →
-    ((w : Text) → condition_text s ≡ Some w → start ≡ reach_of w) → start ≡ (condition_span s t).start
-condition_begins d s t c start seen f =
+pub condition_begins : (d : ℕ) (s t : State) (a : declared.AtomStart) → atom_start d s ≡ view_start a t →
+    ((w : Text) → condition_text s ≡ Some w → HasConditionAt a (reach_of w)) →
+    HasConditionAt a (condition_span s t).start
+condition_begins d s t (start.Body c position) seen f =
     let (w, is, _, _) = subst (HasConditionText (condition_text s)) seen (condition_there d s) in
     f w is ∙ ap (λ o. choose o reach_of (reach_of s.rest)) (sym is)
+condition_begins d s t _ seen f = tt
 
 -- a tree turns as the last of all does, if it is put in its place
 pub turns_last : (r : Result (Unit {0}) ReadError) (all below : List Tree) (t : Tree) (s : State) (o : Outcome Tree) →

@@ -113,12 +113,10 @@ atom_opened start l =
 abbrev pub opened : ℕ → ℕ → Log → Log
 opened start inside l = part_begun inside (atom_opened start l)
 
--- a group of this kind that begins at s, and its contents at t, without the comments in its opening, and with them
-abbrev pub group_begun : GroupKind → State → State → Log → Log
-group_begun h s t l = pass (opening_of h s t) (opened (reach_of s.rest) (reach_of t.rest) l)
-
+-- a group of this kind that begins at s, and its contents at t
 abbrev pub group_opened : GroupKind → State → State → Log → Log
-group_opened h s t l = pass (inner_at s (reach_of t.rest)) (group_begun h s t l)
+group_opened h s t l =
+    pass (inner_at s (reach_of t.rest)) (pass (opening_of h s t) (opened (reach_of s.rest) (reach_of t.rest) l))
 
 -- any other atom that holds branches
 abbrev pub branches_opened : State → State → Log → Log

@@ -1,6 +1,5 @@
 -- How the results of the parser's readers correspond to the grammar's.
 use Rattle.std.specs.Prelude.{◌≡◌, ℕ, ◌+◌, ◌<◌, List, None, option_map, chars, length, Result, MatchResult, ⊤}
-use Rattle.fancy_lex.specs.Text.{Text, reach_of}
 use Rattle.fancy_lex.specs.declared.error.ReadError.{ReadError}
 use Rattle.fancy_grammar.specs.AtomStart.{AtomStart, nothing, read, of_kind, condition, body, absent_branch}
 use Rattle.fancy_grammar.specs.Depth.{max_depth}
@@ -78,10 +77,10 @@ abbrev pub IsSomething : declared.AtomStart → Type 0
 IsSomething Nothing = ⊥
 IsSomething _ = ⊤
 
--- a condition that is no alternation begins at the text
-abbrev pub HasConditionAt : declared.AtomStart → Text → Type 0
-HasConditionAt (Body c start) t = start ≡ reach_of t
-HasConditionAt _ t = ⊤
+-- a condition that is no alternation begins at the reach
+abbrev pub HasConditionAt : declared.AtomStart → ℕ → Type 0
+HasConditionAt (Body c start) n = start ≡ n
+HasConditionAt _ n = ⊤
 
 -- a group is found only if one may open inside d groups
 abbrev pub IsBelow : declared.AtomStart → ℕ → Type 0

@@ -5,7 +5,7 @@ use Rattle.std.specs.Prelude.{if◌then◌else◌}
 use Rattle.fancy_lex.specs.Reading.{choose}
 use Rattle.fancy_lex.specs.Text.{Text, bytes, reach_of}
 use Rattle.fancy_lex.specs.declared.counts.Counts.{Counts}
-use Rattle.fancy_grammar.specs.AtomStart.{AtomStart}
+use Rattle.fancy_grammar.specs.AtomStart.{AtomStart, nothing, read, of_kind, condition, body, absent_branch}
 use Rattle.fancy_grammar.specs.Grammar.{Alternation, alternation, Branches, last, more, branch_error, Branch, branch}
 use Rattle.fancy_grammar.specs.Grammar.{Pieces, stop, next, piece_error, Piece, piece, layout_error, Atom, atom, AtomOf}
 use Rattle.fancy_grammar.specs.Grammar.{a_nothing, a_read, a_group, a_condition, condition_error, a_body, two_branches}
@@ -95,6 +95,15 @@ token_read s q l = pass (flags_of_atom s q) (leaf_recorded (reach_of s.rest) (en
 
 abbrev pub atom_read : State → Outcome Tree → Log → Log
 atom_read s q l = pass (inner_at s (end_of q)) (token_read s q l)
+
+-- what was read of an atom that begins at s
+abbrev pub atom_begun : State → AtomStart → Log → Log
+atom_begun s nothing l = leaf_recorded (reach_of s.rest) (reach_of s.rest) l
+atom_begun s (read o) l = atom_read s o l
+atom_begun s (of_kind h t) l = group_opened h s t l
+atom_begun s (condition t) l = branches_opened s t l
+atom_begun s (body c t) l = body_opened s t l
+atom_begun s (absent_branch t) l = branches_opened s t l
 
 -- ---- the productions
 

@@ -1,5 +1,5 @@
 //! The messages of reports, which name the parts of the pattern that they are about.
-use crate::problem::{Others, Problem, Total};
+use crate::problem::{Others, Problem};
 use crate::rule::Rule;
 use class_meaning::ClassErrorKind;
 use class_rules::class_problem::ClassProblem;

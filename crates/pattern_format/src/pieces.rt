@@ -1,6 +1,6 @@
 //! The pieces of a pattern that is laid out anew.
 use crate::spelling::{push_flags, push_quantifier};
-use crate::token::{Column, Token, TokenKind, begins_with_line_end, is_blank};
+use crate::token::{Column, Token, TokenKind, begins_with_line_end};
 use std::alloc::{AllocError, Global};
 
 /// What a piece of a pattern is.

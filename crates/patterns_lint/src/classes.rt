@@ -2,7 +2,7 @@
 ghost use Rattle.std.specs.Prelude.{◌≡◌, ◌++◌, ◌∷◌, chars, codes, IfSome};
 
 use fancy_lex::text::{after, next};
-use fancy_syntax::expr::Expr;
+use fancy_syntax::expr::{Expr, Shape, Wrap};
 
 /// The one letter or digit of a class.
 #[tactic(auto, using(fancy_lex::proofs::TextLemmas::strip_is))]
@@ -48,26 +48,27 @@ pub(crate) struct Form<'t> {
 
 /// Whether the node is a class in brackets.
 fn is_in_brackets(tree: &Expr) -> bool {
-    match tree {
-        Expr::Delegate { inner, .. } => inner.as_str().starts_with('['),
-        _ => false,
-    }
+    let Expr::Delegate { inner, .. } = tree else {
+        return false;
+    };
+    inner.as_str().starts_with('[')
 }
 
 /// Whether the piece is a class in brackets with this quantifier, or a choice of which one branch is a class in brackets.
 fn is_such_a_class(piece: &Expr, counts: Option<Counts>) -> bool {
-    let tree = match piece {
-        Expr::Group(inside) => inside,
-        other => other,
+    let tree = if let Expr::Group(inside) = piece {
+        inside
+    } else {
+        piece
     };
-    match tree {
-        Expr::Repeat { child, lo, hi, .. } => {
-            let (lo, hi) = (*lo, *hi);
-            counts == Some(Counts { lo, hi }) && is_in_brackets(child)
-        }
-        Expr::Alt(branches) => branches.iter().any(is_in_brackets),
-        _ => false,
+    if let Expr::Repeat { child, lo, hi, .. } = tree {
+        let (lo, hi) = (*lo, *hi);
+        return counts == Some(Counts { lo, hi }) && is_in_brackets(child);
     }
+    if let Expr::Alt(branches) = tree {
+        return branches.iter().any(is_in_brackets);
+    }
+    false
 }
 
 impl<'t> Form<'t> {
@@ -81,20 +82,31 @@ impl<'t> Form<'t> {
 
     /// That of the child of the tree, which has this form, at this index.
     pub(crate) fn of_child(self, tree: &'t Expr, index: usize) -> Form<'t> {
-        match tree {
-            Expr::Group(_) => self,
-            Expr::Repeat { lo, hi, .. } => Form {
-                counts: Some(Counts { lo: *lo, hi: *hi }),
+        match tree.shape() {
+            Shape::Around(Wrap::Group, _) => self,
+            Shape::Around(Wrap::Repeat { lo, hi, .. }, _) => Form {
+                counts: Some(Counts { lo, hi }),
                 beside: self.beside,
             },
-            Expr::Concat(pieces) => Form {
+            Shape::Concat(pieces) => Form {
                 counts: None,
                 beside: (
                     index.checked_sub(1).and_then(|before| pieces.get(before)),
                     pieces.get(index.saturating_add(1)),
                 ),
             },
-            _ => Form::alone(),
+            Shape::Leaf
+            | Shape::Around(
+                Wrap::LookAround(_)
+                | Wrap::AtomicGroup
+                | Wrap::DefineGroup
+                | Wrap::Repeater
+                | Wrap::Stopper,
+                _,
+            )
+            | Shape::Alt(_)
+            | Shape::Conditional { .. }
+            | Shape::Expression { .. } => Form::alone(),
         }
     }
 

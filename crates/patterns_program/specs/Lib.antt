@@ -1,5 +1,6 @@
 pub mod Accepted
 pub mod Edited
+pub mod Fixes
 pub mod Line
 pub mod Progress
 pub mod Rewriting

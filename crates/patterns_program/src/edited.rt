@@ -2,6 +2,8 @@
 ghost use Rattle.std.specs.Prelude.{◌≡◌, IfOk, IfSome, unwrap_or};
 ghost use Rattle.fancy_lex.specs.Flags.{flags_of};
 ghost use Rattle.patterns_program.specs.Edited.{IsInForm, IsReplaced, Replaces};
+ghost use Rattle.patterns_program.specs.Fixes.{IsFixedOnce, IsFixedRepeatedly};
+ghost use Rattle.patterns_program.specs.Rewriting.{IfChanged};
 
 use crate::changes::{PatternChange, change_of};
 use crate::lint::{LintRequest, fixed_further, lint};
@@ -57,7 +59,9 @@ impl EditedPatterns {
     }
 
     /// Forgets the classes of other patterns, if those were parsed under other flags.
-    fn see_flags(&mut self, flags: u32) {
+    fn see_flags(&mut self, flags: u32)
+        ensures flags { self.new.flags ≡ self.old.flags }
+    {
         if flags != self.known_flags {
             self.known = Known::new(self.alloc, flags);
             self.known_flags = flags;
@@ -70,7 +74,11 @@ impl EditedPatterns {
         entry: Entry<'_>,
         has_fixes: bool,
         reports: &mut Vec<Report>,
-    ) -> Result<Rewriting, RunError> {
+    ) -> Result<Rewriting, RunError>
+        ensures flags { self.new.flags ≡ self.old.flags }
+        ensures changed { IfOk result (IfChanged
+            (IsFixedOnce (flags_of (unwrap_or entry.entry.flags self.old.flags)) entry.entry.pattern.now)) }
+    {
         let subject = self.subject(entry);
         self.see_flags(subject.flags);
         let request = LintRequest {
@@ -89,7 +97,9 @@ impl EditedPatterns {
     }
 
     /// The error of the pattern of an entry, or the likely mistakes in it.
-    pub fn reports(&mut self, entry: Entry<'_>) -> Result<Vec<Report>, RunError> {
+    pub fn reports(&mut self, entry: Entry<'_>) -> Result<Vec<Report>, RunError>
+        ensures flags { self.new.flags ≡ self.old.flags }
+    {
         let mut reports = Vec::new(self.alloc);
         self.linted(entry, false, &mut reports)?;
         Ok(reports)
@@ -111,7 +121,11 @@ impl EditedPatterns {
     }
 
     /// What is changed in the file for an entry whose reports are fixed; None if it stays.
-    pub fn fixed(&mut self, entry: Entry<'_>) -> Result<Option<Replacement>, RunError> {
+    pub fn fixed(&mut self, entry: Entry<'_>) -> Result<Option<Replacement>, RunError>
+        ensures flags { self.new.flags ≡ self.old.flags }
+        ensures replaces { IfOk result (λ found. IfSome found (Replaces entry.entry
+            (IsFixedRepeatedly (flags_of (unwrap_or entry.entry.flags self.old.flags)) entry.entry.pattern.now))) }
+    {
         let mut reports = Vec::new(self.alloc);
         let Rewriting::Changed(text) = self.linted(entry, true, &mut reports)? else {
             return Ok(None);

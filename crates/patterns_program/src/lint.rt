@@ -1,10 +1,13 @@
 //! The command `lint`: likely mistakes in patterns that are accepted.
-ghost use Rattle.std.specs.Prelude.{◌≡◌, ◌⊎◌, Ok, IfOk, OnSome, IfNone, IsSome, Contains};
+ghost use Rattle.std.specs.Prelude.{◌≡◌, ◌⊎◌, string_bytes, Ok, IfOk, IfSome, OnSome, IfNone, IsSome, Contains};
 ghost use Rattle.std.specs.Bool.{OnTrue};
+ghost use Rattle.fancy_lex.specs.Flags.{flags_of};
 ghost use Rattle.lint_rules.specs.declared.chosen.Level.{Level};
+ghost use Rattle.patterns_program.specs.Fixes.{IsFixedOnce, IsFixedRepeatedly};
+ghost use Rattle.patterns_program.specs.Rewriting.{IfChanged};
 ghost use Rattle.patterns_program.specs.declared.outcome.Outcome.{Outcome};
 ghost use Rattle.patterns_program.specs.declared.rewriting.Rewriting.TheVariants.{Stays};
-ghost use Rattle.patterns_text.specs.Subject.{IsAccepted, IsRefused};
+ghost use Rattle.patterns_text.specs.Subject.{IsAccepted, IsParsedAs, IsRefused};
 
 use crate::outcome::Outcome;
 use crate::rewriting::Rewriting;
@@ -55,6 +58,7 @@ fn parse_in(
     reports: &mut Reports<'_>,
 ) -> Result<Option<SpannedTree>, RunError>
     ensures read { IfOk result (λ parsed. OnSome parsed (IsAccepted subject.entry)) }
+    ensures tree { IfOk result (λ parsed. IfSome parsed (λ t. IsParsedAs subject.entry t.tree)) }
     ensures refused { IfOk result (λ parsed. IfNone parsed (IsRefused subject.entry)) }
 {
     if dialect.is_none() {
@@ -89,6 +93,7 @@ pub(crate) fn lint(
     ensures refused { result ≡ Ok (Stays Outcome.Refused) →
         IsRefused subject.entry ⊎ Contains request.entry.chosen.now.levels Level.Deny }
     ensures read { result ≡ Ok (Stays Outcome.Unread) → ⊥ }
+    ensures changed { IfOk result (IfChanged (IsFixedOnce (flags_of subject.entry.flags) subject.entry.pattern.now)) }
 {
     let LintRequest {
         grammar,
@@ -123,7 +128,10 @@ fn fixed_once(
     subject: Subject<'_>,
     chosen: &Chosen,
     known: &mut Known,
-) -> Result<Option<String>, RunError> {
+) -> Result<Option<String>, RunError>
+    ensures { IfOk result (λ found. IfSome found (λ text.
+        IsFixedOnce (flags_of subject.entry.flags) subject.entry.pattern.now (string_bytes text))) }
+{
     let Ok(parsed) = subject.parse()? else {
         return Ok(None);
     };
@@ -141,7 +149,10 @@ pub(crate) fn fixed_further(
     text: String,
     chosen: &Chosen,
     known: &mut Known,
-) -> Result<String, RunError> {
+) -> Result<String, RunError>
+    ensures { IfOk result (λ further.
+        IsFixedRepeatedly (flags_of subject.entry.flags) (string_bytes text) (string_bytes further)) }
+{
     let mut text = text;
     for _ in 1..MAX_ROUNDS {
         let pattern = text.as_str();

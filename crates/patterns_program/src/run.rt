@@ -28,7 +28,6 @@ use patterns_config::file_settings::{
 use patterns_config::plan::{Plan, PlanRequest, PlannedFile};
 use patterns_text::error::{RunError, give_up};
 use patterns_text::paint::Paint;
-use patterns_text::position::Spot;
 use patterns_text::shown::Shown;
 use patterns_text::subject::ARGUMENT;
 use source_literals::replaced::{Replacement, replaced};

@@ -5,7 +5,7 @@ ghost use Rattle.fancy_lex.specs.Class as classes;
 ghost use Rattle.fancy_lex.specs.Escape as escapes;
 ghost use Rattle.fancy_lex.specs.EscapeViews.{escape_of};
 ghost use Rattle.fancy_grammar.specs.AtomStart as spec;
-ghost use Rattle.fancy_lex.specs.Text.{Text};
+ghost use Rattle.fancy_lex.specs.Text.{Text, reach_of};
 ghost use Rattle.fancy_grammar.specs.Depth.{max_depth};
 ghost use Rattle.fancy_grammar.specs.Spans.{condition_text};
 ghost use Rattle.fancy_grammar.specs.Tree.{delegate, literal};
@@ -38,7 +38,7 @@ pub(crate) fn read_atom_start<'a>(
     ensures stays { IfOk result (λ a. StaysAtNothing a current.old current.new) }
     ensures shorter { IfOk result (λ a. TakesBytes a current.old.rest.now current.new.rest.now) }
     ensures below { IfOk result (λ a. IsBelow a depth) }
-    ensures start { (t : Text) → condition_text (state current.old) ≡ Some t → IfOk result (λ a. HasConditionAt a t) }
+    ensures start { (t : Text) → condition_text (state current.old) ≡ Some t → IfOk result (λ a. HasConditionAt a (reach_of t)) }
 {
     let Some((c, rest)) = next(current.rest) else {
         return Ok(AtomStart::Nothing);
@@ -68,7 +68,7 @@ fn read_opening<'a>(
     ensures within { IfOk result (λ _. length current.new.rest.now < length current.old.rest.now) }
     ensures something { IfOk result (λ a. IsSomething a) }
     ensures below { IfOk result (λ _. depth + 1 < max_depth) }
-    ensures start { (t : Text) → condition_text (state current.old) ≡ Some t → IfOk result (λ a. HasConditionAt a t) }
+    ensures start { (t : Text) → condition_text (state current.old) ≡ Some t → IfOk result (λ a. HasConditionAt a (reach_of t)) }
 {
     if depth >= MAX_DEPTH - 1 {
         let paren = reach(current.rest);

@@ -4,6 +4,7 @@ use crate::grammar::group::kind::GroupKind;
 use fancy_lex::text::Reach;
 
 /// The start of an atom, which decides how the atom is read.
+#[derive(Drop)]
 pub(crate) enum AtomStart<'a> {
     /// No atom: the piece is Empty and takes no character.
     Nothing,

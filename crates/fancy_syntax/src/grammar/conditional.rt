@@ -1,14 +1,11 @@
 //! Conditionals and absent nodes, made of the trees that were read inside them.
-ghost use Rattle.std.specs.Prelude.{◌≡◌, ◌&&◌, true, false, if◌then◌else◌, IfOk, OnOk};
+ghost use Rattle.std.specs.Prelude.{◌≡◌, ◌&&◌, IfOk};
 ghost use Rattle.fancy_grammar.specs.Grammar as spec;
 ghost use Rattle.fancy_grammar.specs.Join as join;
 ghost use Rattle.fancy_grammar.specs.Tree.{alt, trees_of, conditional as conditional_node};
-ghost use Rattle.fancy_syntax.specs.Log.{Log, atom_closed, atom_ended, conditional_dropped};
-ghost use Rattle.fancy_syntax.specs.Recording.{stopper_recorded};
 ghost use Rattle.fancy_syntax.specs.View.{view, view_ast, views};
 
 use crate::expr::{Absent, AstNode, Expr};
-use crate::grammar::spanning::Spanning;
 use crate::grammar::trees::is_empty;
 use std::alloc::{AllocError, Global};
 
@@ -34,8 +31,23 @@ fn is_condition_node(node: &AstNode) -> bool
     }
 }
 
+/// Whether both branches of a conditional's body are Empty.
+pub(crate) fn has_empty_branches(body: &Expr) -> bool
+    ensures { let branches = spec.branches_of (view body.now) in
+        result ≡ (join.is_empty branches.0 && join.is_empty branches.1) }
+{
+    match body {
+        Expr::Alt(branches) => match branches.as_slice() {
+            [branch] => is_empty(branch),
+            [branch, other] => is_empty(branch) && is_empty(other),
+            _ => false,
+        },
+        body => is_empty(body),
+    }
+}
+
 /// The branches of a conditional's body. If it is an Alt, they are its first branch and the choice among the others.
-pub(crate) fn branches_of(body: Expr) -> (Expr, Expr)
+fn branches_of(body: Expr) -> (Expr, Expr)
     ensures first { view result.0 ≡ (spec.branches_of (view body)).0 }
     ensures others { view result.1 ≡ (spec.branches_of (view body)).1 }
 {
@@ -72,28 +84,20 @@ fn choice(branches: Vec<Expr>) -> Expr
     }
 }
 
-/// The conditional of these branches, which ends at the reach. If both are Empty, it is only the condition.
-pub(crate) fn conditional<S: Spanning>(
+/// The conditional with this body. If both branches are Empty, it is only the condition.
+pub(crate) fn conditional(
     alloc: Global,
     condition: Box<Expr>,
-    branches: (Expr, Expr),
-    end: usize,
-    spans: &mut S,
+    body: Expr,
 ) -> Result<Expr, AllocError>
-    ensures tree { IfOk result (λ e. view e ≡
-        spec.conditional_of (view condition.value) (view branches.0) (view branches.1)) }
-    ensures spans { (l : Log) → S.records spans.old l → OnOk result (S.records spans.new
-        (if join.is_empty (view branches.0) && join.is_empty (view branches.1)
-        then atom_ended (conditional_dropped end l) else atom_closed end false l)) }
+    ensures { let branches = spec.branches_of (view body) in
+        IfOk result (λ e. view e ≡ spec.conditional_of (view condition.value) branches.0 branches.1) }
 {
-    if is_empty(&branches.0) && is_empty(&branches.1) {
-        drop(branches);
-        spans.drop_conditional(end)?;
-        spans.close_bare();
+    if has_empty_branches(&body) {
+        drop(body);
         return Ok(Box::into_inner(condition));
     }
-    spans.close(end, false)?;
-    let (true_branch, false_branch) = branches;
+    let (true_branch, false_branch) = branches_of(body);
     decide(alloc, condition, true_branch, false_branch)
 }
 
@@ -122,23 +126,13 @@ fn decide(
     })
 }
 
-/// A branch after `(?~|` that no other branch follows: a clear if it is Empty, else a stopper. It ends at the reach.
-pub(crate) fn clear_or_stopper<S: Spanning>(
-    alloc: Global,
-    branch: Expr,
-    end: usize,
-    spans: &mut S,
-) -> Result<Expr, AllocError>
-    ensures tree { IfOk result (λ e. view e ≡ spec.clear_or_stopper (view branch)) }
-    ensures spans { (l : Log) → S.records spans.old l →
-        OnOk result (S.records spans.new (stopper_recorded (view branch) end l)) }
+/// A branch after `(?~|` that no other branch follows: a clear if it is Empty, else a stopper.
+pub(crate) fn clear_or_stopper(alloc: Global, branch: Expr) -> Result<Expr, AllocError>
+    ensures { IfOk result (λ e. view e ≡ spec.clear_or_stopper (view branch)) }
 {
     if is_empty(&branch) {
         drop(branch);
-        spans.drop_part();
-        spans.close(end, false)?;
         return Ok(Expr::Absent(Absent::Clear));
     }
-    spans.close(end, false)?;
     Ok(Expr::Absent(Absent::Stopper(Box::new(alloc, branch)?)))
 }

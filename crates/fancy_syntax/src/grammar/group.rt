@@ -4,7 +4,7 @@ ghost use Rattle.std.specs.Prelude.{MatchResult};
 ghost use Rattle.fancy_lex.specs.ErrorTable.{unknown_verb};
 ghost use Rattle.fancy_lex.specs.Characters.{code};
 ghost use Rattle.fancy_lex.specs.LayoutSteps.{past_layout};
-ghost use Rattle.fancy_lex.specs.Text.{Text, strip_word};
+ghost use Rattle.fancy_lex.specs.Text.{Text, reach_of, strip_word};
 ghost use Rattle.std.specs.Option.{option_and_then};
 ghost use Rattle.fancy_lex.specs.LetterSteps.{letters};
 ghost use Rattle.fancy_lex.specs.GroupName as names;
@@ -44,7 +44,7 @@ pub(crate) fn after_paren<'a>(
     ensures within { length current.new.rest.now ≤ length current.old.rest.now }
     ensures something { IfOk result (λ a. IsSomething a) }
     ensures start { (t : Text) → option_and_then (strip_word (codes "?("))
-        (past_layout current.old.flags.ignore_space (chars current.old.rest.now)) ≡ Some t → IfOk result (λ a. HasConditionAt a t) }
+        (past_layout current.old.flags.ignore_space (chars current.old.rest.now)) ≡ Some t → IfOk result (λ a. HasConditionAt a (reach_of t)) }
 {
     current.rest = skip_layout(*current)?;
     let Some((c, rest)) = next(current.rest) else {
@@ -66,7 +66,7 @@ fn after_question<'a>(alloc: Global, current: &mut State<'a>) -> Result<AtomStar
     ensures value { Sees result (state current.new) (spec.after_question (state current.old) (chars current.old.rest.now)) }
     ensures within { length current.new.rest.now ≤ length current.old.rest.now }
     ensures something { IfOk result (λ a. IsSomething a) }
-    ensures start { (t : Text) → chars current.old.rest.now ≡ code "(" ∷ t → IfOk result (λ a. HasConditionAt a t) }
+    ensures start { (t : Text) → chars current.old.rest.now ≡ code "(" ∷ t → IfOk result (λ a. HasConditionAt a (reach_of t)) }
 {
     let Some((c, rest)) = next(current.rest) else {
         return read_flags(alloc, current);
@@ -255,7 +255,7 @@ fn read_condition<'a>(alloc: Global, current: &mut State<'a>) -> Result<AtomStar
         (spec.after_question (state current.old) (codes "(" ++ chars current.old.rest.now)) }
     ensures within { length current.new.rest.now ≤ length current.old.rest.now }
     ensures something { IfOk result (λ a. IsSomething a) }
-    ensures start { IfOk result (λ a. HasConditionAt a (chars current.old.rest.now)) }
+    ensures start { IfOk result (λ a. HasConditionAt a (reach_of (chars current.old.rest.now))) }
 {
     let Some((c, rest)) = next(current.rest) else {
         return Err(ReadError::At(AT_END, ParseError::UnclosedOpenParen));
@@ -284,7 +284,7 @@ fn read_verb_condition<'a>(
     ensures value { Sees result (state current.new) (spec.verb_start spec.body (state current.old) (chars rest.now)) }
     ensures within { length current.new.rest.now ≤ length current.old.rest.now }
     ensures something { IfOk result (λ a. IsSomething a) }
-    ensures start { IfOk result (λ a. HasConditionAt a (chars current.old.rest.now)) }
+    ensures start { IfOk result (λ a. HasConditionAt a (reach_of (chars current.old.rest.now))) }
 {
     let start = reach(current.rest);
     let verb = read_verb(current, rest)?;
@@ -298,7 +298,7 @@ fn read_target<'a>(alloc: Global, current: &mut State<'a>) -> Result<AtomStart<'
         (spec.target_start (state current.old) (references.condition_target (chars current.old.rest.now))) }
     ensures within { length current.new.rest.now ≤ length current.old.rest.now }
     ensures something { IfOk result (λ a. IsSomething a) }
-    ensures start { IfOk result (λ a. HasConditionAt a (chars current.old.rest.now)) }
+    ensures start { IfOk result (λ a. HasConditionAt a (reach_of (chars current.old.rest.now))) }
 {
     let start = reach(current.rest);
     let (target, rest) = condition_target(current.rest)?;

@@ -1,5 +1,5 @@
 //! The end of a part: its closing parenthesis, and the tree that its contents become.
-ghost use Rattle.std.specs.Prelude.{◌≡◌, ◌+◌, ◌<◌, true, length, chars, IfOk, OnOk, MatchResult, None};
+ghost use Rattle.std.specs.Prelude.{◌≡◌, ◌<◌, true, length, chars, IfOk, OnOk, MatchResult, None};
 ghost use Rattle.fancy_lex.specs.Characters.{code};
 ghost use Rattle.fancy_lex.specs.Text.{reach_of, strip};
 ghost use Rattle.fancy_grammar.specs.State.{ends};
@@ -7,26 +7,21 @@ ghost use Rattle.fancy_grammar.specs.Grammar as spec;
 ghost use Rattle.fancy_syntax.specs.Log.{Log};
 ghost use Rattle.fancy_syntax.specs.Machine as machine;
 ghost use Rattle.fancy_syntax.specs.Machine.{ended_with, part_of, part_recorded};
-ghost use Rattle.fancy_syntax.specs.Recording.{group_recorded};
-ghost use Rattle.fancy_syntax.specs.Parsed.{group_kind, state, Turns};
-ghost use Rattle.fancy_grammar.specs.Trivia.{part, closing};
-ghost use Rattle.fancy_syntax.specs.TriviaViews.{recorded_part};
+ghost use Rattle.fancy_syntax.specs.Parsed.{state, Turns};
 ghost use Rattle.fancy_grammar.specs.Errors.{IsErrorAmong};
 ghost use Rattle.fancy_grammar.specs.State as states;
 ghost use Rattle.fancy_grammar.specs.Tree.{Tree};
 ghost use Rattle.fancy_syntax.specs.View.{view};
 
 use crate::expr::{Absent, Expr};
-use crate::grammar::conditional::{branches_of, clear_or_stopper, conditional, is_condition};
+use crate::grammar::conditional::{clear_or_stopper, conditional, is_condition};
 use crate::grammar::error::general;
 use crate::grammar::frame::OpenPart;
-use crate::grammar::group::kind::{GroupKind, enclose};
-use crate::grammar::recorded::RecordedTrivium;
+use crate::grammar::group::kind::enclose;
 use crate::grammar::spanning::Spanning;
 use crate::grammar::state::State;
-use crate::trivium::TriviumKind;
 use fancy_lex::error::{ParseError, ReadError};
-use fancy_lex::text::{AT_END, byte_len, next, reach, reach_before};
+use fancy_lex::text::{AT_END, byte_len, next, reach};
 use std::alloc::{AllocError, Global};
 use std::mem;
 
@@ -51,7 +46,8 @@ pub(crate) fn end_part<S: Spanning>(
 {
     let paren = reach(current.rest);
     read_end(alloc, &open_part, current)?;
-    Ok(node_of_part(alloc, open_part, tree, paren, current.rest, spans)?)
+    spans.end_part(&open_part, tree, paren, current.rest)?;
+    Ok(node_of_part(alloc, open_part, tree)?)
 }
 
 /// Reads the closing parenthesis of the open part, whatever its tree is. The errors are those of `end_part`.
@@ -81,112 +77,41 @@ fn lacks_body(open_part: &OpenPart, text: &str) -> bool
     }
 }
 
-/// Makes the tree of the contents of the part the tree of the part. Its closing parenthesis begins at the reach `paren`,
-/// and `rest` follows it. Most parts are groups: this saves each of them the locals of the others.
+/// Makes the tree of the contents of the part the tree of the part. Most parts are groups: this saves each of them the
+/// locals of the others.
 #[inline(always)]
-fn node_of_part<S: Spanning>(
-    alloc: Global,
-    open_part: OpenPart,
-    tree: &mut Expr,
-    paren: usize,
-    rest: &str,
-    spans: &mut S,
-) -> Result<(), AllocError>
-    ensures tree { OnOk result (view tree.new ≡ machine.made_of open_part.entry (view tree.old)) }
-    ensures spans { (l : Log) → S.records spans.old l →
-        OnOk result (S.records spans.new
-        (part_recorded (part_of open_part.entry) (view tree.old) paren (reach_of (chars rest.now)) l)) }
+fn node_of_part(alloc: Global, open_part: OpenPart, tree: &mut Expr) -> Result<(), AllocError>
+    ensures { OnOk result (view tree.new ≡ machine.made_of open_part.entry (view tree.old)) }
 {
     match open_part {
-        OpenPart::Group { kind, reach } => {
-            record_closing(&kind, rest, spans)?;
-            enclose(alloc, kind, reach, tree)
-        }
-        other => node_of_any_part(alloc, other, tree, paren, rest, spans),
+        OpenPart::Group { kind, reach } => enclose(alloc, kind, reach, tree),
+        other => node_of_any_part(alloc, other, tree),
     }
 }
 
 /// The same without the shortcut.
 #[inline(never)]
-fn node_of_any_part<S: Spanning>(
-    alloc: Global,
-    open_part: OpenPart,
-    tree: &mut Expr,
-    paren: usize,
-    rest: &str,
-    spans: &mut S,
-) -> Result<(), AllocError>
-    ensures tree { OnOk result (view tree.new ≡ machine.made_of open_part.entry (view tree.old)) }
-    ensures spans { (l : Log) → S.records spans.old l →
-        OnOk result (S.records spans.new
-        (part_recorded (part_of open_part.entry) (view tree.old) paren (reach_of (chars rest.now)) l)) }
+fn node_of_any_part(alloc: Global, open_part: OpenPart, tree: &mut Expr) -> Result<(), AllocError>
+    ensures { OnOk result (view tree.new ≡ machine.made_of open_part.entry (view tree.old)) }
 {
-    let end = reach(rest);
     match open_part {
         OpenPart::Top | OpenPart::Condition => Ok(()),
-        OpenPart::Group { kind, reach } => {
-            record_closing(&kind, rest, spans)?;
-            enclose(alloc, kind, reach, tree)
-        }
+        OpenPart::Group { kind, reach } => enclose(alloc, kind, reach, tree),
         OpenPart::Body { condition, .. } => {
-            spans.end_body(tree, paren)?;
             let body = mem::replace(tree, Expr::Empty);
-            *tree = conditional(alloc, condition, branches_of(body), end, spans)?;
+            *tree = conditional(alloc, condition, body)?;
             Ok(())
         }
         OpenPart::First => {
             let branch = mem::replace(tree, Expr::Empty);
-            *tree = clear_or_stopper(alloc, branch, end, spans)?;
+            *tree = clear_or_stopper(alloc, branch)?;
             Ok(())
         }
         OpenPart::Second(absent) => {
-            spans.close(end, false)?;
             let exp = Box::new(alloc, mem::replace(tree, Expr::Empty))?;
             *tree = Expr::Absent(Absent::Expression { absent, exp });
             Ok(())
         }
-    }
-}
-
-/// The closing parenthesis that `rest` follows.
-fn closing_before(rest: &str, unnamed: bool) -> RecordedTrivium
-    ensures { let end = reach_of (chars rest.now) in
-        recorded_part result ≡ part (end + 1) end closing unnamed }
-{
-    RecordedTrivium {
-        start: reach_before(rest),
-        end: reach(rest),
-        kind: TriviumKind::Closing,
-        unnamed,
-    }
-}
-
-/// Records the end of a group of one alternation, which `rest` follows. A flag group has no node.
-#[inline(always)]
-fn record_closing<S: Spanning>(
-    kind: &GroupKind,
-    rest: &str,
-    spans: &mut S,
-) -> Result<(), AllocError>
-    ensures { (l : Log) → S.records spans.old l → OnOk result (S.records spans.new
-        (group_recorded (group_kind kind.now) (reach_of (chars rest.now)) l)) }
-{
-    let end = reach(rest);
-    match kind {
-        GroupKind::FlagGroup => {
-            spans.pass(closing_before(rest, false))?;
-            spans.close_bare();
-            Ok(())
-        }
-        GroupKind::Capture(None) | GroupKind::Undecided => {
-            spans.pass(closing_before(rest, true))?;
-            spans.close(end, true)
-        }
-        GroupKind::Capture(Some(_))
-        | GroupKind::Look(_)
-        | GroupKind::Atomic
-        | GroupKind::Define
-        | GroupKind::Repeater => spans.close(end, false),
     }
 }
 

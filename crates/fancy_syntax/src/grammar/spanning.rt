@@ -1,19 +1,20 @@
 //! The positions of the nodes of a raw tree, and of what no node has, recorded while it is read.
-ghost use Rattle.std.specs.Prelude.{◌≡◌, chars, OnOk, [], ◌∷◌};
+ghost use Rattle.std.specs.Prelude.{◌≡◌, chars, OnOk};
 ghost use Rattle.fancy_lex.specs.Text.{reach_of};
-ghost use Rattle.fancy_syntax.specs.Log.{Log, leaf_recorded, left_out, wrapped, opened};
-ghost use Rattle.fancy_syntax.specs.Log.{branch_begun, branch_ended, choice_ended, body_begun, conditional_dropped};
-ghost use Rattle.fancy_syntax.specs.Log.{part_dropped, atom_closed, atom_ended, layout_passed, pass, text_dropped};
-ghost use Rattle.fancy_syntax.specs.TriviaViews.{recorded_part};
-ghost use Rattle.fancy_syntax.specs.Parsed.{state};
-ghost use Rattle.fancy_syntax.specs.Recording.{body_separated};
+ghost use Rattle.fancy_syntax.specs.Log.{Log, leaf_recorded, left_out, wrapped, body_begun, branch_begun};
+ghost use Rattle.fancy_syntax.specs.Log.{branch_ended, choice_ended, layout_passed, pass, text_dropped};
+ghost use Rattle.fancy_syntax.specs.Machine.{part_of, part_recorded};
+ghost use Rattle.fancy_syntax.specs.Parsed.{state, view_start, HasConditionAt};
+ghost use Rattle.fancy_syntax.specs.Recording.{atom_begun};
 ghost use Rattle.fancy_syntax.specs.View.{view};
+ghost use Rattle.fancy_grammar.specs.Spans.{condition_span};
 ghost use Rattle.fancy_grammar.specs.State.{skipped};
-ghost use Rattle.fancy_grammar.specs.Trivia.{inner_at, inner_of_counts};
+ghost use Rattle.fancy_grammar.specs.Trivia.{inner_of_counts};
 ghost use Rattle.fancy_lex.specs.LayoutSteps.{rest};
 
 use crate::expr::Expr;
-use crate::grammar::recorded::RecordedTrivium;
+use crate::grammar::atom_start::AtomStart;
+use crate::grammar::frame::OpenPart;
 use crate::grammar::state::State;
 use fancy_lex::counts::Counts;
 use fancy_lex::text::Reach;
@@ -35,15 +36,6 @@ pub(crate) trait Spanning: Drop {
         ensures { (l : Log) → records self.old l → OnOk result (records self.new
             (pass (inner_of_counts counts (chars start.now) (chars after.now)) l)) };
 
-    /// The token that begins the atom at `start`, and that ends at the reach, is passed.
-    fn pass_start(&mut self, alloc: Global, start: State, end: Reach) -> Result<(), AllocError>
-        ensures { (l : Log) → records self.old l → OnOk result (records self.new
-            (pass (inner_at (state start.entry) end) l)) };
-
-    /// A part of the pattern that no node has, or may have, is passed.
-    fn pass(&mut self, part: RecordedTrivium) -> Result<(), AllocError>
-        ensures { (l : Log) → records self.old l → OnOk result (records self.new (pass (recorded_part part ∷ []) l)) };
-
     /// The text between the reaches leaves nothing in the tree, unless it is empty.
     fn drop_text(&mut self, start: usize, end: usize) -> Result<(), AllocError>
         ensures { (l : Log) → records self.old l → OnOk result (records self.new (text_dropped start end l)) };
@@ -52,6 +44,19 @@ pub(crate) trait Spanning: Drop {
     fn record_leaf(&mut self, start: usize, end: usize) -> Result<(), AllocError>
         ensures { (l : Log) → records self.old l → OnOk result (records self.new (leaf_recorded start end l)) };
 
+    /// An atom begins at `start`, and what was read of it ends at `end`. If it holds branches, its first part is open;
+    /// otherwise it becomes the last piece.
+    fn begin_atom(
+        &mut self,
+        alloc: Global,
+        start: State,
+        atom: &AtomStart,
+        end: State,
+    ) -> Result<(), AllocError>
+        requires { HasConditionAt atom.now (condition_span (state start) (state end)).start }
+        ensures { (l : Log) → records self.old l → OnOk result (records self.new
+            (atom_begun (state start.entry) (view_start atom.now (state end.entry)) l)) };
+
     /// The last piece is an Empty, which is left out.
     fn leave_out(&mut self)
         ensures { (l : Log) → records self.old l → records self.new (left_out l) };
@@ -59,10 +64,6 @@ pub(crate) trait Spanning: Drop {
     /// A quantifier that ends there makes a node around the last piece, and if it is atomic one more around that.
     fn wrap(&mut self, end: usize, atomic: bool) -> Result<(), AllocError>
         ensures { (l : Log) → records self.old l → OnOk result (records self.new (wrapped end atomic l)) };
-
-    /// An atom that holds branches begins at the first reach, and its first part at the second.
-    fn open(&mut self, start: usize, inside: usize) -> Result<(), AllocError>
-        ensures { (l : Log) → records self.old l → OnOk result (records self.new (opened start inside l)) };
 
     /// The open part is a condition whose closing parenthesis was read. The body begins at `rest`.
     fn begin_body(&mut self, rest: &str)
@@ -80,27 +81,17 @@ pub(crate) trait Spanning: Drop {
     fn end_choice(&mut self, end: usize) -> Result<(), AllocError>
         ensures { (l : Log) → records self.old l → OnOk result (records self.new (choice_ended end l)) };
 
-    /// The body of a conditional ends there. If it is an Alt, its node is replaced by its first branch and the choice
-    /// among the others; otherwise an Empty at its end is the second branch.
-    fn end_body(&mut self, body: &Expr, end: usize) -> Result<(), AllocError>
-        ensures { (l : Log) → records self.old l → OnOk result (records self.new (body_separated (view body.now) end l)) };
-
-    /// What was read of the open part leaves no node.
-    fn drop_part(&mut self)
-        ensures { (l : Log) → records self.old l → records self.new (part_dropped l) };
-
-    /// The open atom is a conditional that ends there, of which only the condition leaves nodes.
-    fn drop_conditional(&mut self, end: usize) -> Result<(), AllocError>
-        ensures { (l : Log) → records self.old l → OnOk result (records self.new (conditional_dropped end l)) };
-
-    /// The open atom ends there with a node of its own, and becomes the last piece. An unnamed group may have no
-    /// number.
-    fn close(&mut self, end: usize, unnamed: bool) -> Result<(), AllocError>
-        ensures { (l : Log) → records self.old l → OnOk result (records self.new (atom_closed end unnamed l)) };
-
-    /// The open atom ends without a node of its own, and becomes the last piece.
-    fn close_bare(&mut self)
-        ensures { (l : Log) → records self.old l → records self.new (atom_ended l) };
+    /// The open part with this tree ends. Its closing parenthesis begins at the reach, and `rest` follows it. The atom
+    /// becomes the last piece unless a body follows the part.
+    fn end_part(
+        &mut self,
+        part: &OpenPart,
+        tree: &Expr,
+        paren: Reach,
+        rest: &str,
+    ) -> Result<(), AllocError>
+        ensures { (l : Log) → records self.old l → OnOk result (records self.new
+            (part_recorded (part_of part.now) (view tree.now) paren (reach_of (chars rest.now)) l)) };
 }
 
 /// No spans are recorded.
@@ -126,16 +117,6 @@ impl Spanning for NoSpans {
     }
 
     #[inline(always)]
-    fn pass_start(&mut self, _alloc: Global, _start: State, _end: Reach) -> Result<(), AllocError> {
-        Ok(())
-    }
-
-    #[inline(always)]
-    fn pass(&mut self, _part: RecordedTrivium) -> Result<(), AllocError> {
-        Ok(())
-    }
-
-    #[inline(always)]
     fn drop_text(&mut self, _start: usize, _end: usize) -> Result<(), AllocError> {
         Ok(())
     }
@@ -146,15 +127,21 @@ impl Spanning for NoSpans {
     }
 
     #[inline(always)]
-    fn leave_out(&mut self) {}
-
-    #[inline(always)]
-    fn wrap(&mut self, _end: usize, _atomic: bool) -> Result<(), AllocError> {
+    fn begin_atom(
+        &mut self,
+        _alloc: Global,
+        _start: State,
+        _atom: &AtomStart,
+        _end: State,
+    ) -> Result<(), AllocError> {
         Ok(())
     }
 
     #[inline(always)]
-    fn open(&mut self, _start: usize, _inside: usize) -> Result<(), AllocError> {
+    fn leave_out(&mut self) {}
+
+    #[inline(always)]
+    fn wrap(&mut self, _end: usize, _atomic: bool) -> Result<(), AllocError> {
         Ok(())
     }
 
@@ -175,23 +162,13 @@ impl Spanning for NoSpans {
     }
 
     #[inline(always)]
-    fn end_body(&mut self, _body: &Expr, _end: usize) -> Result<(), AllocError> {
+    fn end_part(
+        &mut self,
+        _part: &OpenPart,
+        _tree: &Expr,
+        _paren: Reach,
+        _rest: &str,
+    ) -> Result<(), AllocError> {
         Ok(())
     }
-
-    #[inline(always)]
-    fn drop_part(&mut self) {}
-
-    #[inline(always)]
-    fn drop_conditional(&mut self, _end: usize) -> Result<(), AllocError> {
-        Ok(())
-    }
-
-    #[inline(always)]
-    fn close(&mut self, _end: usize, _unnamed: bool) -> Result<(), AllocError> {
-        Ok(())
-    }
-
-    #[inline(always)]
-    fn close_bare(&mut self) {}
 }

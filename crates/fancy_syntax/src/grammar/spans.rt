@@ -1,22 +1,31 @@
 //! The spans of the nodes of a raw tree, each tree in preorder, and what no node has.
-ghost use Rattle.std.specs.Prelude.{◌≡◌, true, false, ◌∷◌, chars, map, IfOk, OnOk};
+ghost use Rattle.std.specs.Prelude.{◌≡◌, ◌+◌, true, false, [], ◌∷◌, chars, map, IfOk, OnOk};
+ghost use Rattle.fancy_grammar.specs.State.{done};
 ghost use Rattle.fancy_syntax.specs.Log as spec;
 ghost use Rattle.fancy_syntax.specs.Log.{layout_passed};
 ghost use Rattle.fancy_syntax.specs.LogViews.{log_of};
-ghost use Rattle.fancy_syntax.specs.Parsed.{state};
+ghost use Rattle.fancy_syntax.specs.Parsed.{group_kind, state};
+ghost use Rattle.fancy_syntax.specs.Recording.{body_separated, token_read, conditional_recorded, group_recorded};
 ghost use Rattle.fancy_syntax.specs.TriviaViews.{recorded_part};
-ghost use Rattle.fancy_grammar.specs.Trivia.{dropped, of_comment, of_inner, part};
+ghost use Rattle.fancy_syntax.specs.View.{view};
+ghost use Rattle.fancy_grammar.specs.Trivia.{closing, dropped, inner_at, of_comment, of_inner, opening_of, part};
+ghost use Rattle.fancy_lex.specs.Text.{reach_of};
 ghost use Rattle.fancy_lex.specs.TokenComments.{class_comments, escape_comments, token_comments};
 ghost use Rattle.fancy_lex.specs.CommentViews.{comment_of};
 
 mod returned;
 
 use crate::expr::Expr;
+use crate::grammar::atom_start::AtomStart;
+use crate::grammar::conditional::has_empty_branches;
+use crate::grammar::frame::OpenPart;
+use crate::grammar::group::kind::GroupKind;
 use crate::grammar::recorded::{
-    ConditionPart, FirstBar, LastPiece, Open, Recorded, RecordedTrivium,
+    ConditionPart, FirstBar, LastPiece, Open, Recorded, RecordedTrivium, part_between,
 };
 use crate::grammar::spanning::Spanning;
 use crate::grammar::state::State;
+use crate::grammar::trees::is_empty;
 use crate::trivium::TriviumKind;
 use fancy_lex::class::next_escape;
 use fancy_lex::counts::Counts;
@@ -157,15 +166,69 @@ impl Spans {
         self.put(height, node)
     }
 
-    /// An atom begins there.
-    fn open_atom(&mut self, start: usize) -> Result<(), AllocError>
-        ensures { OnOk result (log_of self.new ≡ spec.atom_opened start (log_of self.old)) }
+    /// Records a part of the pattern that no node has, or may have.
+    fn pass(&mut self, part: RecordedTrivium) -> Result<(), AllocError>
+        ensures { OnOk result (log_of self.new ≡ spec.pass (recorded_part part ∷ []) (log_of self.old)) }
+    {
+        if self.passed.is_empty() {
+            self.passed.reserve(PARTS)?;
+        }
+        Ok(self.passed.push(part)?)
+    }
+
+    /// Records the comments in the token that begins the atom at `start`, and that ends at the reach.
+    fn pass_start(&mut self, alloc: Global, start: State, end: Reach) -> Result<(), AllocError>
+        ensures { OnOk result (log_of self.new ≡ spec.pass (inner_at (state start.entry) end) (log_of self.old)) }
+    {
+        let Some((c, rest)) = next(start.rest) else {
+            return Ok(());
+        };
+        match c {
+            '(' => self.pass_token(rest, end),
+            '\\' => self.pass_escape(rest, end),
+            '[' => self.pass_class(alloc, rest, end, start.flags),
+            _ => Ok(()),
+        }
+    }
+
+    /// Records the opening of a group of this kind if it has no node, or may have none.
+    #[inline(always)]
+    fn pass_opening(
+        &mut self,
+        kind: GroupKind,
+        start: State,
+        inside: State,
+    ) -> Result<(), AllocError>
+        ensures { OnOk result (log_of self.new ≡
+            spec.pass (opening_of (group_kind kind.entry) (state start.entry) (state inside.entry)) (log_of self.old)) }
+    {
+        let opening = TriviumKind::Opening {
+            around: start.flags,
+            inside: inside.flags,
+        };
+        match kind {
+            GroupKind::FlagGroup => self.pass(part_between(start, inside, opening, false)),
+            GroupKind::Capture(None) | GroupKind::Undecided => {
+                self.pass(part_between(start, inside, opening, true))
+            }
+            GroupKind::Capture(Some(_))
+            | GroupKind::Look(_)
+            | GroupKind::Atomic
+            | GroupKind::Define
+            | GroupKind::Repeater => Ok(()),
+        }
+    }
+
+    /// An atom begins at the first reach, and its first part at the second.
+    fn open_atom(&mut self, start: usize, inside: usize) -> Result<(), AllocError>
+        ensures { OnOk result (log_of self.new ≡ spec.opened start inside (log_of self.old)) }
     {
         self.around.reserve(1)?;
         self.around.push_reserved(self.open);
         self.open.start = start;
         self.open.height = self.recorded.len();
         self.open.passed = self.passed.len();
+        self.begin(inside);
         Ok(())
     }
 
@@ -238,6 +301,112 @@ impl Spans {
         self.put(at.saturating_add(bar.before), Recorded::Node { start, end })
     }
 
+    /// Records a leaf, or inline flags, whose tree is an Empty.
+    #[inline(always)]
+    fn record_token(&mut self, start: State, atom: &Expr, end: State) -> Result<(), AllocError>
+        ensures { OnOk result (log_of self.new ≡
+            token_read (state start.entry) (done (view atom.now) (state end.entry)) (log_of self.old)) }
+    {
+        self.record_leaf(reach(start.rest), reach(end.rest))?;
+        if is_empty(atom) {
+            let kind = TriviumKind::InlineFlags {
+                before: start.flags,
+                after: end.flags,
+            };
+            self.pass(part_between(start, end, kind, false))?;
+        }
+        Ok(())
+    }
+
+    /// Opens any other atom that holds branches. Its first part begins at the reach.
+    #[inline(always)]
+    fn open(&mut self, alloc: Global, start: State, inside: Reach) -> Result<(), AllocError>
+        ensures { OnOk result (log_of self.new ≡ spec.pass (inner_at (state start.entry) inside)
+            (spec.opened (reach_of (chars start.entry.rest.now)) inside (log_of self.old))) }
+    {
+        self.open_atom(reach(start.rest), inside)?;
+        self.pass_start(alloc, start, inside)
+    }
+
+    /// Ends a group of one alternation, which `rest` follows. A flag group has no node.
+    #[inline(always)]
+    fn close_group(&mut self, kind: GroupKind, rest: &str) -> Result<(), AllocError>
+        ensures { OnOk result (log_of self.new ≡
+            group_recorded (group_kind kind.entry) (reach_of (chars rest.now)) (log_of self.old)) }
+    {
+        let end = reach(rest);
+        match kind {
+            GroupKind::FlagGroup => {
+                self.pass(closing_before(rest, false))?;
+                self.end_atom();
+                Ok(())
+            }
+            GroupKind::Capture(None) | GroupKind::Undecided => {
+                self.pass(closing_before(rest, true))?;
+                self.close(end, true)
+            }
+            GroupKind::Capture(Some(_))
+            | GroupKind::Look(_)
+            | GroupKind::Atomic
+            | GroupKind::Define
+            | GroupKind::Repeater => self.close(end, false),
+        }
+    }
+
+    /// Ends a conditional with this body, whose closing parenthesis begins at the first reach and ends at the second.
+    fn close_conditional(&mut self, body: &Expr, paren: Reach, end: Reach) -> Result<(), AllocError>
+        ensures { OnOk result (log_of self.new ≡ conditional_recorded (view body.now) paren end (log_of self.old)) }
+    {
+        self.end_body(body, paren)?;
+        if !has_empty_branches(body) {
+            return self.close(end, false);
+        }
+        self.drop_conditional(end)?;
+        self.end_atom();
+        Ok(())
+    }
+
+    /// Separates the branches of a conditional's body, which ends there. If it is an Alt, its node is replaced by its first
+    /// branch and the choice among the others; otherwise an Empty at its end is the second branch.
+    fn end_body(&mut self, body: &Expr, end: usize) -> Result<(), AllocError>
+        ensures { OnOk result (log_of self.new ≡ body_separated (view body.now) end (log_of self.old)) }
+    {
+        match body {
+            Expr::Alt(branches) => self.split(branches.len()),
+            _ => Ok(self.recorded.push(Recorded::Node { start: end, end })?),
+        }
+    }
+
+    /// Leaves out all but the condition of the open conditional, which ends there.
+    fn drop_conditional(&mut self, end: usize) -> Result<(), AllocError>
+        ensures { OnOk result (log_of self.new ≡ spec.conditional_dropped end (log_of self.old)) }
+    {
+        self.recorded.truncate(self.open.branches);
+        let Some(condition) = self.open.condition else {
+            return Ok(());
+        };
+        let body = self
+            .passed
+            .split_off(condition.passed.min(self.passed.len()))?;
+        self.insert_dropped(self.open.passed, self.open.start, condition.start)?;
+        self.fill(condition.closing, end, &body)
+    }
+
+    /// Ends the open atom there, with a node of its own. An unnamed group may have no number.
+    fn close(&mut self, end: usize, unnamed: bool) -> Result<(), AllocError>
+        ensures { OnOk result (log_of self.new ≡ spec.atom_closed end unnamed (log_of self.old)) }
+    {
+        let start = self.open.start;
+        let node = if unnamed {
+            Recorded::Unnamed { start, end }
+        } else {
+            Recorded::Node { start, end }
+        };
+        self.put(self.open.height, node)?;
+        self.end_atom();
+        Ok(())
+    }
+
     /// Ends the open atom, which becomes the last piece.
     fn end_atom(&mut self)
         ensures { log_of self.new ≡ spec.atom_ended (log_of self.old) }
@@ -272,25 +441,6 @@ impl Spanning for Spans {
         }
     }
 
-    fn pass_start(&mut self, alloc: Global, start: State, end: Reach) -> Result<(), AllocError> {
-        let Some((c, rest)) = next(start.rest) else {
-            return Ok(());
-        };
-        match c {
-            '(' => self.pass_token(rest, end),
-            '\\' => self.pass_escape(rest, end),
-            '[' => self.pass_class(alloc, rest, end, start.flags),
-            _ => Ok(()),
-        }
-    }
-
-    fn pass(&mut self, part: RecordedTrivium) -> Result<(), AllocError> {
-        if self.passed.is_empty() {
-            self.passed.reserve(PARTS)?;
-        }
-        Ok(self.passed.push(part)?)
-    }
-
     fn drop_text(&mut self, start: usize, end: usize) -> Result<(), AllocError> {
         if start == end {
             return Ok(());
@@ -302,6 +452,40 @@ impl Spanning for Spans {
         let height = self.recorded.len();
         self.last = LastPiece { start, height };
         Ok(self.recorded.push(Recorded::Node { start, end })?)
+    }
+
+    #[inline(always)]
+    fn begin_atom(
+        &mut self,
+        alloc: Global,
+        start: State,
+        atom: &AtomStart,
+        end: State,
+    ) -> Result<(), AllocError> {
+        match atom {
+            AtomStart::Nothing => self.record_leaf(reach(start.rest), reach(start.rest)),
+            AtomStart::Read(atom) => {
+                self.record_token(start, atom, end)?;
+                self.pass_start(alloc, start, reach(end.rest))
+            }
+            AtomStart::Group(kind) => {
+                self.open_atom(reach(start.rest), reach(end.rest))?;
+                self.pass_opening(*kind, start, end)?;
+                self.pass_start(alloc, start, reach(end.rest))
+            }
+            AtomStart::Condition | AtomStart::AbsentBranch => {
+                self.open(alloc, start, reach(end.rest))
+            }
+            AtomStart::Body {
+                start: condition,
+                ..
+            } => {
+                self.open(alloc, start, *condition)?;
+                self.record_leaf(*condition, reach_before(end.rest))?;
+                self.begin_body(end.rest);
+                Ok(())
+            }
+        }
     }
 
     fn leave_out(&mut self) {
@@ -319,12 +503,6 @@ impl Spanning for Spans {
         let leaf = self.recorded[height];
         self.recorded[height] = Recorded::Node { start, end };
         self.recorded.push_reserved(leaf);
-        Ok(())
-    }
-
-    fn open(&mut self, start: usize, inside: usize) -> Result<(), AllocError> {
-        self.open_atom(start)?;
-        self.begin(inside);
         Ok(())
     }
 
@@ -365,43 +543,40 @@ impl Spanning for Spans {
         self.put(self.open.branches, Recorded::Node { start, end })
     }
 
-    fn end_body(&mut self, body: &Expr, end: usize) -> Result<(), AllocError> {
-        match body {
-            Expr::Alt(branches) => self.split(branches.len()),
-            _ => Ok(self.recorded.push(Recorded::Node { start: end, end })?),
+    #[inline(always)]
+    fn end_part(
+        &mut self,
+        part: &OpenPart,
+        tree: &Expr,
+        paren: Reach,
+        rest: &str,
+    ) -> Result<(), AllocError> {
+        match part {
+            OpenPart::Top | OpenPart::Condition => Ok(()),
+            OpenPart::Group { kind, .. } => self.close_group(*kind, rest),
+            OpenPart::Body { .. } => self.close_conditional(tree, paren, reach(rest)),
+            OpenPart::First => {
+                // The branch of a clear leaves no node.
+                if is_empty(tree) {
+                    self.recorded.truncate(self.open.branches);
+                }
+                self.close(reach(rest), false)
+            }
+            OpenPart::Second(_) => self.close(reach(rest), false),
         }
     }
+}
 
-    fn drop_part(&mut self) {
-        self.recorded.truncate(self.open.branches);
-    }
-
-    fn drop_conditional(&mut self, end: usize) -> Result<(), AllocError> {
-        self.recorded.truncate(self.open.branches);
-        let Some(condition) = self.open.condition else {
-            return Ok(());
-        };
-        let body = self
-            .passed
-            .split_off(condition.passed.min(self.passed.len()))?;
-        self.insert_dropped(self.open.passed, self.open.start, condition.start)?;
-        self.fill(condition.closing, end, &body)
-    }
-
-    fn close(&mut self, end: usize, unnamed: bool) -> Result<(), AllocError> {
-        let start = self.open.start;
-        let node = if unnamed {
-            Recorded::Unnamed { start, end }
-        } else {
-            Recorded::Node { start, end }
-        };
-        self.put(self.open.height, node)?;
-        self.end_atom();
-        Ok(())
-    }
-
-    fn close_bare(&mut self) {
-        self.end_atom();
+/// The closing parenthesis that `rest` follows.
+fn closing_before(rest: &str, unnamed: bool) -> RecordedTrivium
+    ensures { let end = reach_of (chars rest.now) in
+        recorded_part result ≡ part (end + 1) end closing unnamed }
+{
+    RecordedTrivium {
+        start: reach_before(rest),
+        end: reach(rest),
+        kind: TriviumKind::Closing,
+        unnamed,
     }
 }
 

@@ -8,16 +8,15 @@ ghost use Rattle.fancy_grammar.specs.Depth.{max_depth};
 ghost use Rattle.fancy_grammar.specs.Items.{items};
 ghost use Rattle.fancy_syntax.specs.Decided.{decided, all_decided};
 ghost use Rattle.fancy_syntax.specs.Found.{FindsMore, openings_found};
-ghost use Rattle.fancy_syntax.specs.Log.{Log, body_opened, branches_opened, group_begun, group_opened};
+ghost use Rattle.fancy_syntax.specs.Log.{Log};
 ghost use Rattle.fancy_syntax.specs.Machine as machine;
 ghost use Rattle.fancy_syntax.specs.Machine.{OpensPart, Part, IsPart, GivesStep, EndsPiece, part_of, TurnsLast};
-ghost use Rattle.fancy_syntax.specs.Recording.{added, atom_read, quants_recorded, token_read};
-ghost use Rattle.fancy_syntax.specs.Parsed.{group_kind, state};
+ghost use Rattle.fancy_syntax.specs.Recording.{added, quants_recorded};
+ghost use Rattle.fancy_syntax.specs.Parsed.{state};
 ghost use Rattle.fancy_grammar.specs.Quantified.{quants};
-ghost use Rattle.fancy_grammar.specs.Spans.{condition_span};
 ghost use Rattle.fancy_grammar.specs.State as states;
 ghost use Rattle.fancy_grammar.specs.Tree.{Tree};
-ghost use Rattle.fancy_syntax.specs.View.{view, views};
+ghost use Rattle.fancy_syntax.specs.View.{views};
 
 use crate::expr::Expr;
 use crate::grammar::atom::read_atom_start;
@@ -25,17 +24,14 @@ use crate::grammar::atom_start::AtomStart;
 use crate::grammar::fast_path::is_unquantified;
 use crate::grammar::found::FoundGroups;
 use crate::grammar::frame::{OpenPart, PieceStart};
-use crate::grammar::group::kind::GroupKind;
 use crate::grammar::part_end::end_part;
 use crate::grammar::quantified::quantify;
-use crate::grammar::recorded::part_between;
 use crate::grammar::spanning::Spanning;
 use crate::grammar::state::{State, skip_layout};
-use crate::grammar::trees::{is_empty, leave_out_empty, push};
-use crate::trivium::TriviumKind;
+use crate::grammar::trees::{leave_out_empty, push};
 use fancy_lex::error::ReadError;
-use fancy_lex::text::{Reach, byte_len, reach, reach_before};
-use std::alloc::{AllocError, Global};
+use fancy_lex::text::{byte_len, reach};
+use std::alloc::Global;
 
 /// Reads a piece and adds its tree to the list, unless it is Empty; or reads the opening of a group, up to its contents,
 /// and returns the group. A returned error is the error of the piece.
@@ -63,161 +59,35 @@ pub(crate) fn read_step<'a, S: Spanning>(
     spans.pass_layout(*current, rest)?;
     current.rest = rest;
     let before = *current;
-    match read_atom_start(alloc, current, depth)? {
+    let atom = read_atom_start(alloc, current, depth)?;
+    spans.begin_atom(alloc, before, &atom, *current)?;
+    match atom {
         AtomStart::Nothing => {
-            spans.record_leaf(reach(before.rest), reach(current.rest))?;
             push(trees, Expr::Empty)?;
             end_piece(alloc, trees, current, left, depth, spans)?;
             Ok(None)
         }
         AtomStart::Read(atom) => {
-            record_atom(alloc, before, &atom, *current, spans)?;
             found.record(&atom);
             push(trees, atom)?;
             end_piece(alloc, trees, current, left, depth, spans)?;
             Ok(None)
         }
         AtomStart::Group(kind) => {
-            record_opening(alloc, kind, before, *current, spans)?;
             let kind = found.add(alloc, kind)?;
             let paren = reach(before.rest);
             Ok(Some(OpenPart::Group { kind, reach: paren }))
         }
-        AtomStart::Condition => {
-            record_branches(alloc, before, *current, spans)?;
-            Ok(Some(OpenPart::Condition))
-        }
-        AtomStart::Body { condition, start } => {
-            record_condition(alloc, before, start, *current, spans)?;
+        AtomStart::Condition => Ok(Some(OpenPart::Condition)),
+        AtomStart::Body { condition, .. } => {
             found.record(&condition);
             Ok(Some(OpenPart::Body {
                 condition,
                 left: byte_len(current.rest),
             }))
         }
-        AtomStart::AbsentBranch => {
-            record_branches(alloc, before, *current, spans)?;
-            Ok(Some(OpenPart::First))
-        }
+        AtomStart::AbsentBranch => Ok(Some(OpenPart::First)),
     }
-}
-
-/// Records an atom that is read at once, with the comments in it.
-#[inline(always)]
-fn record_atom<S: Spanning>(
-    alloc: Global,
-    start: State,
-    atom: &Expr,
-    end: State,
-    spans: &mut S,
-) -> Result<(), AllocError>
-    ensures { (l : Log) → S.records spans.old l → OnOk result (S.records spans.new
-        (atom_read (state start.entry) (states.done (view atom.now) (state end.entry)) l)) }
-{
-    record_token(start, atom, end, spans)?;
-    spans.pass_start(alloc, start, reach(end.rest))
-}
-
-/// Records a leaf, or inline flags, whose tree is an Empty.
-#[inline(always)]
-fn record_token<S: Spanning>(
-    start: State,
-    atom: &Expr,
-    end: State,
-    spans: &mut S,
-) -> Result<(), AllocError>
-    ensures { (l : Log) → S.records spans.old l → OnOk result (S.records spans.new
-        (token_read (state start.entry) (states.done (view atom.now) (state end.entry)) l)) }
-{
-    spans.record_leaf(reach(start.rest), reach(end.rest))?;
-    if is_empty(atom) {
-        let kind = TriviumKind::InlineFlags {
-            before: start.flags,
-            after: end.flags,
-        };
-        spans.pass(part_between(start, end, kind, false))?;
-    }
-    Ok(())
-}
-
-/// Records the opening of a group of one alternation, whose contents begin at `inside`, with the comments in it.
-#[inline(always)]
-fn record_opening<S: Spanning>(
-    alloc: Global,
-    kind: GroupKind,
-    start: State,
-    inside: State,
-    spans: &mut S,
-) -> Result<(), AllocError>
-    ensures { (l : Log) → S.records spans.old l → OnOk result (S.records spans.new
-        (group_opened (group_kind kind.entry) (state start.entry) (state inside.entry) l)) }
-{
-    begin_group(kind, start, inside, spans)?;
-    spans.pass_start(alloc, start, reach(inside.rest))
-}
-
-/// Records the opening of a group of one alternation. A flag group has no node.
-#[inline(always)]
-fn begin_group<S: Spanning>(
-    kind: GroupKind,
-    start: State,
-    inside: State,
-    spans: &mut S,
-) -> Result<(), AllocError>
-    ensures { (l : Log) → S.records spans.old l → OnOk result (S.records spans.new
-        (group_begun (group_kind kind.entry) (state start.entry) (state inside.entry) l)) }
-{
-    spans.open(reach(start.rest), reach(inside.rest))?;
-    let opening = TriviumKind::Opening {
-        around: start.flags,
-        inside: inside.flags,
-    };
-    match kind {
-        GroupKind::FlagGroup => spans.pass(part_between(start, inside, opening, false)),
-        GroupKind::Capture(None) | GroupKind::Undecided => {
-            spans.pass(part_between(start, inside, opening, true))
-        }
-        GroupKind::Capture(Some(_))
-        | GroupKind::Look(_)
-        | GroupKind::Atomic
-        | GroupKind::Define
-        | GroupKind::Repeater => Ok(()),
-    }
-}
-
-/// Records the opening of any other atom that holds branches, which begin at `inside`.
-#[inline(always)]
-fn record_branches<S: Spanning>(
-    alloc: Global,
-    start: State,
-    inside: State,
-    spans: &mut S,
-) -> Result<(), AllocError>
-    ensures { (l : Log) → S.records spans.old l → OnOk result (S.records spans.new
-        (branches_opened (state start.entry) (state inside.entry) l)) }
-{
-    spans.open(reach(start.rest), reach(inside.rest))?;
-    spans.pass_start(alloc, start, reach(inside.rest))
-}
-
-/// Records the opening of a conditional whose condition, no alternation, begins at the reach. Its body begins at `inside`.
-#[inline(always)]
-fn record_condition<S: Spanning>(
-    alloc: Global,
-    start: State,
-    condition: Reach,
-    inside: State,
-    spans: &mut S,
-) -> Result<(), AllocError>
-    requires { condition ≡ (condition_span (state start) (state inside)).start }
-    ensures { (l : Log) → S.records spans.old l → OnOk result (S.records spans.new
-        (body_opened (state start.entry) (state inside.entry) l)) }
-{
-    spans.open(reach(start.rest), condition)?;
-    spans.pass_start(alloc, start, condition)?;
-    spans.record_leaf(condition, reach_before(inside.rest))?;
-    spans.begin_body(inside.rest);
-    Ok(())
 }
 
 /// Reads the quantifiers of the last tree, an atom, and leaves it out if it is Empty.

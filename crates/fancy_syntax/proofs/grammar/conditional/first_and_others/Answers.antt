@@ -1,14 +1,11 @@
-use Rattle.std.proofs.Common.{◌≡◌, ◌<◌, List, [], ◌∷◌, length, remove, ap, sym, ◌∙◌, refl, arith}
+use Rattle.std.proofs.Common.{◌≡◌, ◌<◌, List, [], ◌∷◌, length, remove, ap, sym, ◌∙◌, arith}
 use Rattle.fancy_grammar.specs.Grammar as spec
 use Rattle.fancy_grammar.specs.Join as join
-use Rattle.fancy_grammar.specs.Tree.{Tree, alt, trees_of, list_of}
+use Rattle.fancy_grammar.proofs.TreeLaws.{list_back}
+use Rattle.fancy_grammar.specs.Tree.{alt, trees_of}
 use Rattle.fancy_syntax.specs.View.{views}
 use Rattle.fancy_syntax.specs.declared.expr.Expr.{Expr}
 use Rattle.fancy_syntax.proofs.grammar.conditional.first_and_others.Goals as goal
-
-list_back : (l : List Tree) → list_of (trees_of l) ≡ l
-list_back [] = refl
-list_back (t ∷ l) = ap (λ x. t ∷ x) (list_back l)
 
 others_of : (l m : List Expr) → 0 < length l → m ≡ remove l 0 →
     join.choice (views m) ≡ (spec.branches_of (alt (trees_of (views l)))).1

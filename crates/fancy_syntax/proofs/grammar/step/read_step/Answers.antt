@@ -29,26 +29,26 @@ returns-in_err-rest-clause-value g c i l ts e w =
     let x = err_from_is_err_and c.from_residual.result c.from_residual.ensures.1 in
     let (p, is, layout) = c.in_err-rest.ensures.value in rw (x.1, x.2) (steps_layout _ _ _ is layout)
 
-pub returns-in_err-read_atom_start-clause-value : goal.returns-in_err-read_atom_start-clause-value
-returns-in_err-read_atom_start-clause-value g c i l ts e w =
-    let x = err_from_is_err_and c.from_residual-in_err-read_atom_start.result
-    c.from_residual-in_err-read_atom_start.ensures.1 in
+pub returns-in_err-atom-clause-value : goal.returns-in_err-atom-clause-value
+returns-in_err-atom-clause-value g c i l ts e w =
+    let x = err_from_is_err_and c.from_residual-in_err-atom.result
+    c.from_residual-in_err-atom.ensures.1 in
     rw (x.1, x.2)
     (IsErrorAmong-map (λ o. atom_start c.args.depth (at (state c.args.current.now) (chars c.in_ok-rest.rest.now))
     ≡ read o)
     (Piece c.args.depth (state c.args.current.now))
-    c.in_err-read_atom_start.field-0.0 (λ f h. piece c.in_ok-rest.ensures.value (atom h a_read))
-    c.in_err-read_atom_start.ensures.value)
+    c.in_err-atom.field-0.0 (λ f h. piece c.in_ok-rest.ensures.value (atom h a_read))
+    c.in_err-atom.ensures.value)
 
 pub returns-in_err-end_piece-in-Nothing-clause-value : goal.returns-in_err-end_piece-in-Nothing-clause-value
 returns-in_err-end_piece-in-Nothing-clause-value g c i l ts e w =
     let x = err_from_is_err_and c.from_residual-in_err-end_piece-in-Nothing.result
     c.from_residual-in_err-end_piece-in-Nothing.ensures.1 in
-    let stays = rw c.in-Nothing.is at c.in_ok-read_atom_start.ensures.stays in
+    let stays = rw c.in-Nothing.is at c.in_ok-atom.ensures.stays in
     let put = rw view_Empty at c.in_ok-push-in-Nothing.ensures in
     rw (x.1, x.2) (steps_error (state c.args.current.now) c.in_err-end_piece-in-Nothing.field-0.0
     c.byte_len-left.ensures c.in_ok-rest.ensures.value
-    (atom (rw c.in-Nothing.is at c.in_ok-read_atom_start.ensures.value) a_nothing)
+    (atom (rw c.in-Nothing.is at c.in_ok-atom.ensures.value) a_nothing)
     (rw stays at (c.in_err-end_piece-in-Nothing.ensures.value _ _ l put)))
 
 pub returns-in_err-end_piece-in-Read-clause-value : goal.returns-in_err-end_piece-in-Read-clause-value
@@ -57,7 +57,7 @@ returns-in_err-end_piece-in-Read-clause-value g c i l ts e w =
     c.from_residual-in_err-end_piece-in-Read.ensures.1 in
     rw (x.1, x.2) (steps_error (state c.args.current.now) c.in_err-end_piece-in-Read.field-0.0
     c.byte_len-left.ensures c.in_ok-rest.ensures.value
-    (atom (rw c.in-Read.is at c.in_ok-read_atom_start.ensures.value) a_read)
+    (atom (rw c.in-Read.is at c.in_ok-atom.ensures.value) a_read)
     (c.in_err-end_piece-in-Read.ensures.value _ _ l c.in_ok-push-in-Read.ensures))
 
 -- the trees, with one more that stays as it is
@@ -71,7 +71,7 @@ pub returns-in_ok-end_piece-in-Nothing-clause-value : goal.returns-in_ok-end_pie
 returns-in_ok-end_piece-in-Nothing-clause-value g c i l ts e w =
     let s = state c.args.current.now in
     let u = chars c.in_ok-rest.rest.now in
-    let stays = rw c.in-Nothing.is at c.in_ok-read_atom_start.ensures.stays in
+    let stays = rw c.in-Nothing.is at c.in_ok-atom.ensures.stays in
     let m = leaf_recorded (reach_of u) (reach_of u) (layout_passed s l) in
     let (r, is, pushed, recorded) = c.in_ok-end_piece-in-Nothing.ensures.value _ empty m
     (c.in_ok-push-in-Nothing.ensures ∙ ap (λ t. views c.args.trees.now.items ++ t ∷ []) view_Empty) in (
@@ -81,12 +81,9 @@ returns-in_ok-end_piece-in-Nothing-clause-value g c i l ts e w =
       one_more i _ _ ts r (quants_kept i _ _ empty _ refl is) w pushed,
       steps_piece i s ts c.byte_len-left.ensures c.in_ok-rest.ensures.value
           (subst (λ (w : State). AtomTo c.args.depth (at s u) (done empty (state w)) (layout_passed s l) m) (sym stays)
-          (atom (rw c.in-Nothing.is at c.in_ok-read_atom_start.ensures.value) a_nothing, refl)) is,
+          (atom (rw c.in-Nothing.is at c.in_ok-atom.ensures.value) a_nothing, refl)) is,
       (
-        λ x. recorded (subst (g.S.Spanning.records c.record_leaf.new.self)
-            (λ i. leaf_recorded (c.reach.ensures i)
-            ((c.reach-in-Nothing.ensures ∙ ap (λ (w : State). reach_of (chars w.rest.now)) stays) i) (layout_passed s l))
-            (c.in_ok-record_leaf-in-Nothing.ensures _ (c.in_ok-pass_layout.ensures l x))),
+        λ x. recorded (rw c.in-Nothing.is at (c.in_ok-begin_atom.ensures _ (c.in_ok-pass_layout.ensures l x))),
         subst (FindsMore c.args.found.now c.args.found.now) (sym (items_solid r ∙ items_under _ _ _ _ is))
             (nothing_more c.args.found.now),
       ),
@@ -94,11 +91,11 @@ returns-in_ok-end_piece-in-Nothing-clause-value g c i l ts e w =
 
 pub returns-in_ok-end_piece-in-Nothing-clause-shorter : goal.returns-in_ok-end_piece-in-Nothing-clause-shorter
 returns-in_ok-end_piece-in-Nothing-clause-shorter g c =
-    let stays = rw c.in-Nothing.is at c.in_ok-read_atom_start.ensures.stays in
+    let stays = rw c.in-Nothing.is at c.in_ok-atom.ensures.stays in
     let (r, is, all, recorded) = c.in_ok-end_piece-in-Nothing.ensures.value _ empty (started 0)
     (c.in_ok-push-in-Nothing.ensures ∙ ap (λ t. views c.args.trees.now.items ++ t ∷ []) view_Empty) in
     nothing_shorter c.args.depth _ _ _ _ (state c.args.current.now) _ r (state c.end_piece.new.current)
-    (rw c.in-Nothing.is at c.in_ok-read_atom_start.ensures.value) c.requires.more c.byte_len-left.ensures
+    (rw c.in-Nothing.is at c.in_ok-atom.ensures.value) c.requires.more c.byte_len-left.ensures
     (subst (λ (w : State). quants c.args.depth c.byte_len-left.result empty (state w)
     ≡ done r (state c.end_piece.new.current)) stays is)
     c.in_ok-rest.ensures.within c.in_ok-rest.ensures.unmoved
@@ -106,7 +103,7 @@ returns-in_ok-end_piece-in-Nothing-clause-shorter g c =
 
 pub returns-in_ok-end_piece-in-Read-clause-value : goal.returns-in_ok-end_piece-in-Read-clause-value
 returns-in_ok-end_piece-in-Read-clause-value g c i l ts e w =
-    let seen = rw c.in-Read.is at c.in_ok-read_atom_start.ensures.value in
+    let seen = rw c.in-Read.is at c.in_ok-atom.ensures.value in
     let (r, is, pushed, recorded) = c.in_ok-end_piece-in-Read.ensures.value _ _ _ c.in_ok-push-in-Read.ensures in (
       _,
       _,
@@ -115,8 +112,7 @@ returns-in_ok-end_piece-in-Read-clause-value g c i l ts e w =
       steps_piece i (state c.args.current.now) ts c.byte_len-left.ensures c.in_ok-rest.ensures.value
           (atom seen a_read, refl) is,
       (
-        λ x. recorded (c.in_ok-record_atom-in-Read.ensures (layout_passed (state c.args.current.now) l)
-            (c.in_ok-pass_layout.ensures l x)),
+        λ x. recorded (rw c.in-Read.is at (c.in_ok-begin_atom.ensures _ (c.in_ok-pass_layout.ensures l x))),
         subst (FindsMore c.args.found.now c.record.new.self) (sym (items_solid r ∙ items_under _ _ _ _ is))
             c.record.ensures.found,
       ),
@@ -124,7 +120,7 @@ returns-in_ok-end_piece-in-Read-clause-value g c i l ts e w =
 
 pub returns-in_ok-kind-in-Group-clause-value : goal.returns-in_ok-kind-in-Group-clause-value
 returns-in_ok-kind-in-Group-clause-value g c i l ts e w =
-    let seen = rw c.in-Group.is at c.in_ok-read_atom_start.ensures.value in
+    let seen = rw c.in-Group.is at c.in_ok-atom.ensures.value in
     let f = c.in_ok-kind-in-Group.ensures in (
       _,
       ts,
@@ -137,26 +133,26 @@ returns-in_ok-kind-in-Group-clause-value g c i l ts e w =
         refl,
         refl,
       ),
-      (λ x. c.in_ok-record_opening-in-Group.ensures _ (c.in_ok-pass_layout.ensures l x), f.found _),
+      (λ x. rw c.in-Group.is at (c.in_ok-begin_atom.ensures _ (c.in_ok-pass_layout.ensures l x)), f.found _),
     )
 
-pub returns-in_ok-record_branches-in-Condition-clause-value : goal.returns-in_ok-record_branches-in-Condition-clause-value
-returns-in_ok-record_branches-in-Condition-clause-value g c i l ts e w =
-    let seen = rw c.in-Condition.is at c.in_ok-read_atom_start.ensures.value in (
+pub returns-in-Condition-clause-value : goal.returns-in-Condition-clause-value
+returns-in-Condition-clause-value g c i l ts e w =
+    let seen = rw c.in-Condition.is at c.in_ok-atom.ensures.value in (
       _,
       ts,
       _,
       w,
       (condition, tt, a_condition c.in_ok-rest.ensures.value seen, refl, refl),
       (
-        λ x. c.in_ok-record_branches-in-Condition.ensures _ (c.in_ok-pass_layout.ensures l x),
+        λ x. rw c.in-Condition.is at (c.in_ok-begin_atom.ensures _ (c.in_ok-pass_layout.ensures l x)),
         nothing_more c.args.found.now,
       ),
     )
 
-pub returns-in_ok-record_condition-in-Body-clause-value : goal.returns-in_ok-record_condition-in-Body-clause-value
-returns-in_ok-record_condition-in-Body-clause-value g c i l ts e w =
-    let seen = rw c.in-Body.is at c.in_ok-read_atom_start.ensures.value in (
+pub returns-in-Body-clause-value : goal.returns-in-Body-clause-value
+returns-in-Body-clause-value g c i l ts e w =
+    let seen = rw c.in-Body.is at c.in_ok-atom.ensures.value in (
       _,
       ts,
       _,
@@ -169,33 +165,32 @@ returns-in_ok-record_condition-in-Body-clause-value g c i l ts e w =
         refl,
       ),
       (
-        λ x. c.in_ok-record_condition-in-Body.ensures _ (c.in_ok-pass_layout.ensures l x),
+        λ x. rw c.in-Body.is at (c.in_ok-begin_atom.ensures _ (c.in_ok-pass_layout.ensures l x)),
         rw c.deref.ensures at c.record-in-Body.ensures.found,
       ),
     )
 
-pub returns-in_ok-record_branches-in-AbsentBranch-clause-value : goal.returns-in_ok-record_branches-in-AbsentBranch-clause-value
-returns-in_ok-record_branches-in-AbsentBranch-clause-value g c i l ts e w =
-    let seen = rw c.in-AbsentBranch.is at c.in_ok-read_atom_start.ensures.value in (
+pub returns-in-AbsentBranch-clause-value : goal.returns-in-AbsentBranch-clause-value
+returns-in-AbsentBranch-clause-value g c i l ts e w =
+    let seen = rw c.in-AbsentBranch.is at c.in_ok-atom.ensures.value in (
       _,
       ts,
       _,
       w,
       (first, tt, a_branch c.in_ok-rest.ensures.value seen, refl, refl),
       (
-        λ x. c.in_ok-record_branches-in-AbsentBranch.ensures _ (c.in_ok-pass_layout.ensures l x),
+        λ x. rw c.in-AbsentBranch.is at (c.in_ok-begin_atom.ensures _ (c.in_ok-pass_layout.ensures l x)),
         nothing_more c.args.found.now,
       ),
     )
 
 pub record-requires : goal.record-requires
-record-requires g c = leaf_alone _ _ (rw c.in-Read.is at c.in_ok-read_atom_start.ensures.value)
+record-requires g c = leaf_alone _ _ (rw c.in-Read.is at c.in_ok-atom.ensures.value)
 
 pub record-requires-in-Body : goal.record-requires-in-Body
 record-requires-in-Body g c =
-    rw c.deref.ensures (condition_alone _ _ (rw c.in-Body.is at c.in_ok-read_atom_start.ensures.value))
+    rw c.deref.ensures (condition_alone _ _ (rw c.in-Body.is at c.in_ok-atom.ensures.value))
 
-pub record_condition-requires : goal.record_condition-requires
-record_condition-requires g c =
-    condition_begins _ _ _ _ _ (rw c.in-Body.is at c.in_ok-read_atom_start.ensures.value)
-    (rw c.in-Body.is at c.in_ok-read_atom_start.ensures.start)
+pub begin_atom-requires : goal.begin_atom-requires
+begin_atom-requires g c =
+    condition_begins _ _ _ _ c.in_ok-atom.ensures.value c.in_ok-atom.ensures.start

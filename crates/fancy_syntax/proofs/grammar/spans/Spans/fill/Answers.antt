@@ -8,14 +8,14 @@ pub loop-part-preserved-then-part-from : goal.loop-part-preserved-then-part-from
 loop-part-preserved-then-part-from c =
     c.loop-part.invariant
     ∙ filled_inner c.args.parts.now c.loop-part.part-index _ c.loop-part.from c.args.end _ _
-    c.loop-part-test.true c.if-part-from.true (c.in_ok-pass.ensures _ refl)
+    c.loop-part-test.true c.if-part-from.true c.in_ok-pass.ensures
 
 pub loop-part-preserved : goal.loop-part-preserved
 loop-part-preserved c =
     c.loop-part.invariant
     ∙ filled_next c.args.parts.now c.loop-part.part-index _ c.loop-part.from c.args.end _ _ _
     c.loop-part-test.true c.if-part-from.false (c.in_ok-drop_text.ensures _ refl)
-    (c.in_ok-pass-2.ensures _ refl)
+    c.in_ok-pass-2.ensures
 
 pub returns : goal.returns
 returns c =

@@ -1,0 +1,18 @@
+use Rattle.std.proofs.Common.{◌≡◌, sym, ap, ◌∙◌}
+use Rattle.fancy_lex.specs.Text.{reach_of}
+use Rattle.fancy_grammar.specs.Spans.{condition_span}
+use Rattle.fancy_grammar.specs.Trivia.{inner_at}
+use Rattle.fancy_syntax.specs.Log.{body_begun, leaf_recorded, opened, pass}
+use Rattle.fancy_syntax.specs.Parsed.{state, view_start}
+use Rattle.fancy_syntax.specs.Recording.{atom_begun}
+use Rattle.fancy_syntax.proofs.grammar.spans.SpansSpanning.begin_atom.Goals as goal
+
+pub returns-in_ok-record_leaf-in-Body : goal.returns-in_ok-record_leaf-in-Body
+returns-in_ok-record_leaf-in-Body c l h =
+    let s = state c.args.start in
+    let t = state c.args.end in
+    let begins : c.in-Body.condition ≡ (condition_span s t).start = rw c.in-Body.is at c.requires in
+    c.begin_body.ensures _ (c.in_ok-record_leaf-in-Body.ensures _ c.in_ok-open-in-Body.ensures)
+    ∙ (λ i. body_begun (reach_of t.rest) (leaf_recorded (begins i) (c.reach_before.ensures i)
+    (pass (inner_at s (begins i)) (opened (reach_of s.rest) (begins i) (h i)))))
+    ∙ sym (ap (λ a. atom_begun s (view_start a t) l) c.in-Body.is)
