@@ -3,7 +3,7 @@ ghost use Rattle.std.specs.Prelude.{◌≡◌, ℕ, ◌+◌, ◌-◌, ◌<◌, �
 ghost use Rattle.editor_documents.specs.Position.{Text, ends_line, next_line, from_position};
 
 use crate::position::{Encoding, Position, after_line_feed, ends_line};
-use crate::text::next;
+use fancy_lex::text::next;
 
 /// A position in a text, with the rest of the text, to go on from.
 #[derive(Debug, Clone, Copy)]

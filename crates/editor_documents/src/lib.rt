@@ -6,4 +6,3 @@ pub mod change;
 pub mod cursor;
 pub mod document;
 pub mod position;
-mod text;

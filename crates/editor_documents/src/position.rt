@@ -3,7 +3,7 @@ ghost use Rattle.std.specs.Prelude.{◌≡◌, ◌++◌, ◌≤◌, chars, lengt
 ghost use Rattle.editor_documents.specs.Position.{units, ends_line, is_after};
 ghost use Rattle.editor_documents.specs.Position as spec;
 
-use crate::text::next;
+use fancy_lex::text::next;
 
 /// What the characters before a position in its line are counted in.
 #[derive(Debug, Clone, Copy, PartialEq, Eq)]
