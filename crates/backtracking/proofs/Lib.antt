@@ -6,3 +6,4 @@ mod RepeatLemmas
 mod SplitLemmas
 mod ChainLemmas
 mod SequenceLemmas
+mod SearchLemmas

@@ -13,3 +13,4 @@ pub mod ManySplits
 pub mod Across
 pub mod Chain
 pub mod SlowSequences
+pub mod SlowSearches

@@ -170,14 +170,6 @@ impl<'a> Target<'a> {
         }
     }
 
-    /// How the steps grow.
-    fn growth(self) -> Growth {
-        match self {
-            Target::Repeat(_) => Growth::Exponential,
-            Target::Sequence { .. } => Growth::Polynomial,
-        }
-    }
-
     /// The positions that it may lead to from these.
     fn ends(self, trial: &mut Trial<'_, 'a, '_>, starts: &[bool]) -> Result<Vec<bool>, AllocError> {
         match self {
@@ -464,6 +456,7 @@ fn find_failing_ending<'a>(
 fn find_slow_ending<'a>(
     alloc: Global,
     target: Target<'a>,
+    growth: Growth,
     before: &[char],
     word: &[char],
     surroundings: &mut Surroundings<'a, '_>,
@@ -478,18 +471,19 @@ fn find_slow_ending<'a>(
             word,
             after: &after,
         };
-        if surroundings.grows(alloc, text, target.growth())? {
+        if surroundings.grows(alloc, text, growth)? {
             return Ok(Some(after));
         }
     }
     Ok(None)
 }
 
-/// What to put around the word, so that an engine tries all ways through the target; `None` if nothing was found. If the
-/// pattern is tried as a whole, the steps of a search have to grow; else what follows the target has to fail.
+/// What to put around the word, so that the steps of a search through the target grow so; `None` if nothing was found. If the
+/// pattern is not tried as a whole, what follows the target has to fail; then nothing is found that takes many starts.
 pub(crate) fn find_attack<'a>(
     alloc: Global,
     target: Target<'a>,
+    growth: Growth,
     word: &[char],
     surroundings: &mut Surroundings<'a, '_>,
 ) -> Result<Option<Attack>, AllocError> {
@@ -498,11 +492,14 @@ pub(crate) fn find_attack<'a>(
         return Ok(None);
     }
     let lead = lead_to(alloc, target, surroundings)?;
-    let after = match &lead {
-        Some(lead) if surroundings.is_tried(alloc)? => {
-            find_slow_ending(alloc, target, &lead.text, word, surroundings)?
+    let after = match (&lead, growth) {
+        (Some(lead), _) if surroundings.is_tried(alloc)? => {
+            find_slow_ending(alloc, target, growth, &lead.text, word, surroundings)?
         }
-        Some(_) | None => { find_failing_ending(alloc, target, lead.as_ref(), word, surroundings)? }
+        (_, Growth::Search) => None,
+        (_, Growth::Exponential | Growth::Polynomial) => {
+            find_failing_ending(alloc, target, lead.as_ref(), word, surroundings)?
+        }
     };
     let Some(after) = after else {
         return Ok(None);

@@ -1,19 +1,23 @@
 //! Whether a text takes a backtracking engine long.
-use crate::engine::search;
+use crate::engine::{Outcome, search};
 use crate::program::Program;
 use std::alloc::{AllocError, Global};
 
 /// The most steps of a search.
 const MOST_STEPS: usize = 300_000;
 
-/// So many steps from one position are many for a short text.
+/// So many steps are many for a short text.
 const MANY_STEPS: usize = 200_000;
 
 /// How the steps of a search grow with the repetitions of a word.
 #[derive(Clone, Copy)]
 pub(crate) enum Growth {
+    /// Those from one position, exponentially.
     Exponential,
+    /// Those from one position, polynomially.
     Polynomial,
+    /// Those from many positions, of which each alone takes few.
+    Search,
 }
 
 /// A text in which a word is repeated.
@@ -29,7 +33,7 @@ impl Growth {
     fn counts(self) -> [usize; 3] {
         match self {
             Growth::Exponential => [5, 8, 11],
-            Growth::Polynomial => [20, 40, 80],
+            Growth::Polynomial | Growth::Search => [20, 40, 80],
         }
     }
 
@@ -37,7 +41,15 @@ impl Growth {
     fn factor(self) -> usize {
         match self {
             Growth::Exponential => 6,
-            Growth::Polynomial => 3,
+            Growth::Polynomial | Growth::Search => 3,
+        }
+    }
+
+    /// The steps that grow.
+    fn steps(self, outcome: Outcome) -> usize {
+        match self {
+            Growth::Exponential | Growth::Polynomial => outcome.longest,
+            Growth::Search => outcome.steps.saturating_sub(outcome.longest),
         }
     }
 }
@@ -55,8 +67,7 @@ impl RepeatedText<'_> {
     }
 }
 
-/// Whether a search for the program in the text takes a number of steps from one position that grows so. Adds the steps to
-/// `steps`.
+/// Whether a search for the program in the text takes a number of steps that grows so. Adds the steps to `steps`.
 pub(crate) fn grows(
     alloc: Global,
     program: &Program,
@@ -69,16 +80,14 @@ pub(crate) fn grows(
         let searched = text.repeated(alloc, count)?;
         let outcome = search(alloc, program, &searched, MOST_STEPS)?;
         *steps = steps.saturating_add(outcome.steps);
-        if outcome.longest >= least {
+        let taken = growth.steps(outcome);
+        if taken >= least {
             return Ok(true);
         }
         if outcome.is_stopped {
             return Ok(false);
         }
-        least = outcome
-            .longest
-            .saturating_mul(growth.factor())
-            .min(MANY_STEPS);
+        least = taken.saturating_mul(growth.factor()).min(MANY_STEPS);
     }
     Ok(false)
 }

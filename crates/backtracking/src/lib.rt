@@ -1,5 +1,5 @@
 //! Repeats that can match a text in many ways, each with a word that a proved checker has accepted: exponentially many
-//! for one repeat, and polynomially many for two of a concatenation.
+//! for one repeat, polynomially many for two of a concatenation, and one from each start for one that a branch begins with.
 #![tactic(auto)]
 
 pub mod attack;
@@ -22,6 +22,7 @@ mod regular_shape;
 pub mod repeats;
 mod routes;
 mod sample;
+pub mod searches;
 pub mod sequence;
 pub mod sequences;
 mod trial;

@@ -5,6 +5,7 @@ ghost use Rattle.fancy_syntax.specs.Spanned.{Spanned, spanned_of, spanned_of_tre
 ghost use Rattle.backtracking.specs.SlowRepeats.{IsSlowIn, IsLooked};
 
 use crate::attack::{Attack, Surroundings, Target, enclosing_of, find_attack};
+use crate::growth::Growth;
 use crate::known_sets::ClassSets;
 use crate::part_kind::{PartKind, kind_of};
 use crate::witness::{RepeatWays, Witness, ways_of_turns};
@@ -103,7 +104,13 @@ fn look_for_word<'a>(
         }
     };
     let target = Target::Repeat(node.expr());
-    match find_attack(alloc, target, &witness.word, surroundings)? {
+    match find_attack(
+        alloc,
+        target,
+        Growth::Exponential,
+        &witness.word,
+        surroundings,
+    )? {
         Some(attack) => Ok(Some(Looked::Slow(SlowRepeat {
             span: node.span(),
             witness,

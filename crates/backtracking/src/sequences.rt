@@ -6,10 +6,13 @@ ghost use Rattle.fancy_grammar.specs.Tree.{Tree, concat, trees_of};
 ghost use Rattle.fancy_syntax.specs.View.{view, views};
 ghost use Rattle.fancy_syntax.specs.declared.span.Span.{Span};
 ghost use Rattle.backtracking.specs.Chain.{Chain, links};
+ghost use Rattle.backtracking.specs.ManySplits.{HasManySplits};
 ghost use Rattle.backtracking.specs.SlowSequences.{IsRepeatOf, IsCut, IsSpanAcross, IsChain, IsSlowAcross, IsSlowSequenceIn};
+ghost use Rattle.backtracking.specs.ThreeWays.{AreThreeWays};
 
 use crate::attack::{Attack, Surroundings, Target, enclosing_of, find_attack};
 use crate::cut::{Cut, SequenceWays, SequenceWitness};
+use crate::growth::Growth;
 use crate::known_sets::ClassSets;
 use crate::pieces::{Piece, Reach, pieces_of};
 use crate::regular_shape::{RegularShape, regular_shape};
@@ -52,9 +55,9 @@ pub struct SlowSequences {
 
 /// A concatenation: its trees, and their spans.
 #[derive(Clone, Copy)]
-struct Row<'a, 's> {
-    trees: &'a [Expr],
-    spans: &'s [Span],
+pub(crate) struct Row<'a, 's> {
+    pub(crate) trees: &'a [Expr],
+    pub(crate) spans: &'s [Span],
 }
 
 /// What the tree repeats more than 20 times more than it must, if it is such a repeat, or a group of one.
@@ -93,7 +96,7 @@ fn cut_at(trees: &[Expr], first: usize, last: usize) -> Option<Cut<'_>>
 }
 
 /// The span from the one at an index through the one at another.
-fn span_across(spans: &[Span], first: usize, last: usize) -> Option<Span>
+pub(crate) fn span_across(spans: &[Span], first: usize, last: usize) -> Option<Span>
     ensures { IfSome result (IsSpanAcross spans.now first last) }
 {
     let start = spans.get(first)?.start;
@@ -117,6 +120,33 @@ fn chain_to(pairs: &[SlowSequence], index: usize, word: &[char]) -> usize
     longest
 }
 
+/// Searches for three ways over the cut, which has this span. Nothing is found after too many searches.
+pub(crate) fn witness_across<'a>(
+    cut: Cut<'a>,
+    span: Span,
+    options: SearchOptions,
+    surroundings: &mut Surroundings<'a, '_>,
+) -> Result<Option<SequenceWitness>, AllocError>
+    ensures three { IfOk result (λ o. IfSome o (λ w. AreThreeWays options.unicode (view cut.entry.first.now)
+        (views cut.entry.between.now) (view cut.entry.last.now) w.word.items w.first.items w.across.items w.last.items)) }
+    ensures many { IfOk result (λ o. IfSome o (λ w. HasManySplits options.unicode (view cut.entry.first.now)
+        (views cut.entry.between.now) (view cut.entry.last.now) w.word.items w.first.items w.across.items w.last.items)) }
+{
+    if surroundings.searches >= MOST_SEARCHES {
+        surroundings.not_searched.push(span)?;
+        return Ok(None);
+    }
+    surroundings.searches = surroundings.searches.saturating_add(1);
+    match ways_of_cut(options.alloc, cut, options.unicode, &mut surroundings.sets)? {
+        SequenceWays::Polynomial(witness) => Ok(Some(witness)),
+        SequenceWays::NoneFound | SequenceWays::Irregular => Ok(None),
+        SequenceWays::TooLarge => {
+            surroundings.not_searched.push(span)?;
+            Ok(None)
+        }
+    }
+}
+
 /// Searches for three ways from one repeat of the concatenation to another, and for what to put around the word. `pairs` are
 /// those that are slow from earlier repeats on.
 fn look_at_cut<'a>(
@@ -130,32 +160,23 @@ fn look_at_cut<'a>(
     ensures { AllByRecursion (IsSlowAcross options.unicode (views row.entry.trees.now) row.entry.spans.now) pairs.entry.now →
         IfOk result (λ o. IfSome o (IsSlowAcross options.unicode (views row.entry.trees.now) row.entry.spans.now)) }
 {
-    let SearchOptions { alloc, unicode } = options;
     let Some(cut) = cut_at(row.trees, first, last) else {
         return Ok(None);
     };
     let Some(span) = span_across(row.spans, first, last) else {
         return Ok(None);
     };
-    if surroundings.searches >= MOST_SEARCHES {
-        surroundings.not_searched.push(span)?;
+    let Some(witness) = witness_across(cut, span, options, surroundings)? else {
         return Ok(None);
-    }
-    surroundings.searches = surroundings.searches.saturating_add(1);
-    let witness = match ways_of_cut(alloc, cut, unicode, &mut surroundings.sets)? {
-        SequenceWays::Polynomial(witness) => witness,
-        SequenceWays::NoneFound | SequenceWays::Irregular => return Ok(None),
-        SequenceWays::TooLarge => {
-            surroundings.not_searched.push(span)?;
-            return Ok(None);
-        }
     };
     let target = Target::Sequence {
         trees: row.trees,
         first,
         last,
     };
-    let Some(attack) = find_attack(alloc, target, &witness.word, surroundings)? else {
+    let growth = Growth::Polynomial;
+    let Some(attack) = find_attack(options.alloc, target, growth, &witness.word, surroundings)?
+    else {
         return Ok(None);
     };
     let Some(degree) = chain_to(pairs, first, &witness.word).checked_add(1) else {
@@ -185,7 +206,7 @@ fn reach_at(pieces: &[Piece], first: usize, last: usize) -> Reach {
 }
 
 /// Adds that there is too much to look at from one tree to another.
-fn add_too_large(
+pub(crate) fn add_too_large(
     row: Row<'_, '_>,
     first: usize,
     last: usize,
@@ -228,7 +249,7 @@ fn look_from<'a>(
 }
 
 /// The spans of the children of a node.
-fn child_spans(alloc: Global, node: SpannedNode<'_>) -> Result<Vec<Span>, AllocError>
+pub(crate) fn child_spans(alloc: Global, node: SpannedNode<'_>) -> Result<Vec<Span>, AllocError>
     ensures { IfOk result (λ v. v.items ≡ map (λ c. first_span c.spans) (spanned_children (spanned_of node.entry))) }
 {
     let mut spans = Vec::new(alloc);

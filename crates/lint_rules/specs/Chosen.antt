@@ -27,6 +27,7 @@ default_level is_json rule.CharactersInEscape = Allow
 default_level is_json rule.SuspiciousRange = Allow
 default_level is_json rule.DialectDifference = Allow
 default_level is_json rule.PolynomialBacktracking = Allow
+default_level is_json rule.QuadraticSearch = Allow
 default_level is_json rule.UselessFlag = if is_json then Allow else Warn
 default_level is_json _ = Warn
 

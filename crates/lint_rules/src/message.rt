@@ -231,6 +231,7 @@ impl fmt::Display for Message<'_> {
             Problem::PolynomialBacktracking { degree, text } => {
                 write!(f, "polynomial backtracking of degree {degree} on {text}")
             }
+            Problem::QuadraticSearch { text } => write!(f, "quadratic search on {text}"),
             Problem::UselessFlag { letter } => write!(f, "flag {letter} is set already"),
             Problem::CharactersInEscape { escape } => {
                 let parts = self.parts();

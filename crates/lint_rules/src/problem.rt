@@ -81,6 +81,10 @@ pub enum Problem<'a> {
         degree: usize,
         text: AttackText<'a>,
     },
+    /// A repeat that a search goes through again from each start.
+    QuadraticSearch {
+        text: AttackText<'a>,
+    },
     /// A flag that is set already.
     UselessFlag {
         letter: char,
@@ -314,6 +318,7 @@ impl Problem<'_> {
             Problem::UnusedEscape { .. } => Rule::UnusedEscape,
             Problem::ExponentialBacktracking { .. } => Rule::ExponentialBacktracking,
             Problem::PolynomialBacktracking { .. } => Rule::PolynomialBacktracking,
+            Problem::QuadraticSearch { .. } => Rule::QuadraticSearch,
             Problem::UselessFlag { .. } => Rule::UselessFlag,
             Problem::CharactersInEscape { .. } => Rule::CharactersInEscape,
             Problem::Class(problem) => rule_of_class(problem),

@@ -36,6 +36,7 @@ pub enum Rule {
     ZeroQuantifier,
     ExponentialBacktracking,
     PolynomialBacktracking,
+    QuadraticSearch,
     UselessFlag,
     SingleCharacterClass,
     InvalidClass,
@@ -93,7 +94,7 @@ const WARNS: RuleRow = RuleRow {
 };
 
 /// All rules, in the order in which they are listed, which is that of the variants of `Rule`.
-pub static RULES: [RuleRow; 34] = [
+pub static RULES: [RuleRow; 35] = [
     RuleRow {
         rule: Rule::MissingGroup,
         name: "missing-group",
@@ -326,6 +327,19 @@ pub static RULES: [RuleRow; 34] = [
         what: "two repeats that can share a text in many ways, if what follows can fail",
         example: r"\d+\d+x",
         help: "make the first one possessive or atomic, or let the two, or what is between them, match different characters",
+        ..WARNS
+    },
+    RuleRow {
+        rule: Rule::QuadraticSearch,
+        name: "quadratic-search",
+        level: Level::Allow,
+        what: "a repeat that a search goes through again from each start, if what follows can fail",
+        example: r"\s+$",
+        help: r"let no match begin inside it: write (?<!\s)\s+$ for \s+$, or anchor it, or limit the repeat",
+        found: &[Found {
+            pattern: r"^\s+|\s+$",
+            instead: r"^\s+|(?<!\s)\s+$",
+        }],
         ..WARNS
     },
     RuleRow {

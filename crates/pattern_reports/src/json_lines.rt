@@ -52,8 +52,9 @@ fn write_attack(
     writer: &mut Writer,
     problem: Problem<'_>,
 ) -> Result<(), AllocError> {
-    let (Problem::ExponentialBacktracking { text } | Problem::PolynomialBacktracking { text, .. }) =
-        problem
+    let (Problem::ExponentialBacktracking { text }
+    | Problem::PolynomialBacktracking { text, .. }
+    | Problem::QuadraticSearch { text }) = problem
     else {
         return Ok(());
     };

@@ -184,6 +184,11 @@ fn report_slow<'a>(
             Problem::PolynomialBacktracking { degree, text },
         )?;
     }
+    for search in &slow.searches {
+        let handed_on = is_handed_on(nodes, search.span);
+        let text = attack_text(&search.witness.word, &search.attack, handed_on);
+        walk.report(search.span, Problem::QuadraticSearch { text })?;
+    }
     Ok(())
 }
 

@@ -1,6 +1,7 @@
 //! The parts of a pattern that can match a text in many ways.
 use crate::known::Known;
 use backtracking::repeats::{SlowRepeat, SlowRepeats, slow_repeats};
+use backtracking::searches::{SlowSearch, SlowSearches, slow_searches};
 use backtracking::sequences::{SlowSequence, SlowSequences, slow_sequences};
 use fancy_syntax::span::Span;
 use fancy_syntax::spanned::SpannedTree;
@@ -15,7 +16,9 @@ pub struct SlowParts {
     pub repeats: Vec<SlowRepeat>,
     /// The pairs of repeats that can match a text in polynomially many ways.
     pub sequences: Vec<SlowSequence>,
-    /// The repeats and pairs that were not searched.
+    /// The repeats that a search goes through again from each start, if there are no others.
+    pub searches: Vec<SlowSearch>,
+    /// The parts that were not searched.
     pub not_searched: Vec<Span>,
 }
 
@@ -25,8 +28,14 @@ impl SlowParts {
         SlowParts {
             repeats: Vec::new(alloc),
             sequences: Vec::new(alloc),
+            searches: Vec::new(alloc),
             not_searched: Vec::new(alloc),
         }
+    }
+
+    /// Whether nothing slow was found.
+    fn is_empty(&self) -> bool {
+        self.repeats.is_empty() && self.sequences.is_empty() && self.searches.is_empty()
     }
 
     /// What is slow in the pattern, as far as the rules are not silent. Of a silent rule nothing is looked for. `known` has the
@@ -50,6 +59,15 @@ impl SlowParts {
                 &mut known.sets,
             )?;
             parts.sequences = slow;
+            parts.not_searched.extend_from_slice(&not_searched)?;
+        }
+        if parts.is_empty() && chosen.level(Rule::QuadraticSearch) != Level::Allow {
+            let SlowSearches { slow, not_searched } = slow_searches(
+                alloc,
+                parsed,
+                &mut known.sets,
+            )?;
+            parts.searches = slow;
             parts.not_searched.extend_from_slice(&not_searched)?;
         }
         Ok(parts)
