@@ -1,18 +1,24 @@
 -- Branches of a pattern, and lists of the repeats that a search goes through again.
-use Rattle.std.proofs.Common.{◌≡◌, ℕ, Bool, true, List, [], ◌∷◌, ◌++◌, map, take, Vec, Global, sym, ap, ◌∙◌, subst}
+use Rattle.std.proofs.Common.{◌≡◌, ℕ, ◌-◌, true, false, rules, Bool, List, [], ◌∷◌, ◌++◌, map, take, sym, ap, ◌∙◌, subst, arith}
 use Rattle.std.proofs.lemmas.List.{take-map}
-use Rattle.std.specs.List.{AllByRecursion}
+use Rattle.std.specs.List.{AllByRecursion, slice_range}
 use Rattle.fancy_grammar.specs.Tree.{Tree, concat, trees_of}
 use Rattle.fancy_syntax.specs.Spanned.{Spanned, first_span, spanned_children}
 use Rattle.fancy_syntax.specs.View.{view, views}
-use Rattle.fancy_syntax.specs.declared.expr.Expr.{Expr}
+use Rattle.fancy_syntax.specs.declared.expr.Expr.{Expr, Any, the_lemmas}
 use Rattle.fancy_syntax.specs.declared.span.Span.{Span}
-use Rattle.backtracking.specs.SlowSearches.{IsBranchOf, IsSlowFrom, IsSlowSearchIn}
+use Rattle.backtracking.specs.SlowSearches.{any_character, IsBranchOf, IsSlowFrom, IsSlowSearchIn}
 use Rattle.backtracking.specs.declared.searches.SlowSearch.{SlowSearch}
 
+-- the dot that a search passes over
+pub view_any : view (Any true false) ≡ any_character
+view_any = search (rules, the_lemmas)
+
 -- the trees before an index
-pub trees_before : (es bs : List Expr) (i : ℕ) → bs ≡ take i es → views bs ≡ take i (views es)
-trees_before es bs i is = ap views is ∙ sym (take-map view i es)
+pub trees_before : (es bs : List Expr) (i : ℕ) → bs ≡ slice_range es 0 i → views bs ≡ take i (views es)
+trees_before es bs i is =
+    let same : i - 0 ≡ i = omega arith in
+    ap views is ∙ ap (λ n. views (take n es)) same ∙ sym (take-map view i es)
 
 -- a slow repeat of a branch is one of the pattern
 pub slow_in : (unicode : Bool) (pattern node : Spanned) (trees : List Tree) (spans : List Span) (r : SlowSearch) → IsBranchOf pattern node →

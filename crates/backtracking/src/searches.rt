@@ -160,9 +160,10 @@ fn add_slow<'a>(
         trees,
         spans: &spans,
     };
-    if let Some(slow) = look_at_branch(row, searching, surroundings)? {
-        found.push(slow)?;
-    }
+    let Some(slow) = look_at_branch(row, searching, surroundings)? else {
+        return Ok(());
+    };
+    found.push(slow)?;
     Ok(())
 }
 

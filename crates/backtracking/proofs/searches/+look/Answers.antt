@@ -1,11 +1,11 @@
-use Rattle.std.proofs.Common.{◌<◌, ◌∙◌, ap, sym, arith, map}
+use Rattle.std.proofs.Common.{◌≡◌, ◌<◌, ◌∙◌, true, ap, sym, subst, arith, map}
 use Rattle.fancy_syntax.specs.Spanned.{remaining_spanned, spanned_of}
 use Rattle.fancy_syntax.specs.Tree.{levels}
 use Rattle.fancy_syntax.specs.View.{view, views}
 use Rattle.fancy_syntax.proofs.Descents.{within_start, within_first, within_next, levels_of_child}
 use Rattle.fancy_syntax.proofs.NodeLemmas.{remain_start, remain_first, remain_next}
 use Rattle.backtracking.proofs.SequenceLemmas.{concat_of}
-use Rattle.backtracking.specs.SlowSearches.{below}
+use Rattle.backtracking.specs.SlowSearches.{has_branches, below}
 use Rattle.backtracking.proofs.searches.+look.Goals as goal
 
 pub returns-in-Concat : goal.returns-in-Concat
@@ -41,6 +41,7 @@ loop-child-preserved t c =
       within = within_next node.expr child.expr _ _ c.loop-child.invariant.within (ap (map (λ p. p.expr)) c.in-Some.ensures.steps);
       left = remain_next node child _ _ c.loop-child.invariant.left c.in-Some.ensures.steps;
       added = λ pattern k is all. c.in_ok-look.ensures pattern
-          (below k c.if-is_around_branches.ensures (remain_first node child _ _ c.loop-child.invariant.left c.in-Some.ensures.steps))
+          (below k (subst (λ e. has_branches (view e) ≡ true) c.expr-2.ensures (c.is_around_branches.ensures c.if-not-is_around_branches.false))
+          (remain_first node child _ _ c.loop-child.invariant.left c.in-Some.ensures.steps))
           is (c.loop-child.invariant.added pattern k is all);
     }

@@ -7,10 +7,10 @@ pub returns-in-Polynomial-clause-three : goal.returns-in-Polynomial-clause-three
 returns-in-Polynomial-clause-three c =
     let cut = c.args.cut in
     subst (IsAcross c.args.options.unicode (view cut.first.now) (views cut.between.now) (view cut.last.now)) c.in-Polynomial.is
-    c.in_ok-ways_of_cut.ensures.witnessed
+    c.in_ok-witness.ensures.witnessed
 
 pub returns-in-Polynomial-clause-many : goal.returns-in-Polynomial-clause-many
 returns-in-Polynomial-clause-many c =
     let cut = c.args.cut in
     subst (IsPolynomial c.args.options.unicode (view cut.first.now) (views cut.between.now) (view cut.last.now)) c.in-Polynomial.is
-    c.in_ok-ways_of_cut.ensures.polynomial
+    c.in_ok-witness.ensures.polynomial
