@@ -87,7 +87,8 @@ pub(crate) fn grows(
         if outcome.is_stopped {
             return Ok(false);
         }
-        least = taken.saturating_mul(growth.factor()).min(MANY_STEPS);
+        // A search that ends at its first position takes no steps from others.
+        least = taken.saturating_mul(growth.factor()).clamp(1, MANY_STEPS);
     }
     Ok(false)
 }
