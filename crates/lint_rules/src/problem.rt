@@ -131,15 +131,21 @@ impl Others {
         more: 0,
     };
 
-    /// Adds a part after the others.
-    pub fn add(&mut self, span: Span) {
+    /// Whether there is none.
+    pub fn is_empty(&self) -> bool {
+        matches!(self.named, [None, ..])
+    }
+
+    /// Adds a part after the others, and returns whether the message names it.
+    pub fn add(&mut self, span: Span) -> bool {
         for one in self.named.iter_mut() {
             if one.is_none() {
                 *one = Some(span);
-                return;
+                return true;
             }
         }
         self.more = self.more.saturating_add(1);
+        false
     }
 }
 
@@ -152,6 +158,8 @@ pub struct Found<'a> {
     pub related: Option<Related>,
     /// The parts after it with the same problem.
     pub others: Others,
+    /// Whether it is no report of its own: the message of an earlier one with the same problem counts it.
+    pub is_counted: bool,
 }
 
 /// What to do about a problem.
@@ -226,6 +234,7 @@ impl<'a> Found<'a> {
             problem: Problem::Class(finding.problem),
             related,
             others: Others::NONE,
+            is_counted: false,
         }
     }
 
@@ -254,6 +263,7 @@ impl<'a> Found<'a> {
                 (None, Problem::GroupZero) => Help::WholePattern,
                 (None, _) => rule,
             },
+            Problem::DuplicateBranch { .. } if !self.others.is_empty() => Help::Rule("remove them"),
             Problem::Plain(Rule::ZeroQuantifier) => match negated_class(text) {
                 Some(items) => Help::NotBefore { items },
                 None => rule,

@@ -163,6 +163,8 @@ struct AltBranches<'b> {
     may_be_extended: bool,
     has_calls: bool,
     delimiter: Option<char>,
+    /// Where the report on branches that are equal to earlier ones is among those of the walk.
+    duplicates: Option<usize>,
     /// The reports on branches that an earlier one leaves nothing to match, one for each of these.
     unreachable: Vec<UnreachableReport>,
 }
@@ -185,6 +187,7 @@ impl<'b> AltBranches<'b> {
             may_be_extended: around.is_whole && !about.is_complete && is_word_list(all),
             has_calls: about.has_calls,
             delimiter: around.delimiter,
+            duplicates: None,
             unreachable: Vec::new(about.alloc),
         }
     }
@@ -222,6 +225,20 @@ impl<'b> AltBranches<'b> {
         walk.report_beside(span, problem, self.related(problem))
     }
 
+    /// Reports that the branch at the span is equal to an earlier one; if that is reported of another branch, there.
+    fn report_duplicate(
+        &mut self,
+        span: Span,
+        problem: Problem<'static>,
+        walk: &mut Walk<'_>,
+    ) -> Result<(), AllocError> {
+        if let Some(index) = self.duplicates {
+            return walk.join(index, span, problem);
+        }
+        self.duplicates = Some(walk.found.len());
+        walk.report_beside(span, problem, self.related(problem))
+    }
+
     /// Reports what is wrong with the branch at the span.
     fn report(
         &mut self,
@@ -231,6 +248,9 @@ impl<'b> AltBranches<'b> {
     ) -> Result<(), AllocError> {
         if let Problem::UnreachableBranch { earlier } = problem {
             return self.report_unreachable(span, earlier, walk);
+        }
+        if let Problem::DuplicateBranch { .. } = problem {
+            return self.report_duplicate(span, problem, walk);
         }
         walk.report_beside(span, problem, self.related(problem))
     }

@@ -35,6 +35,31 @@ impl<'a> Walk<'a> {
             problem,
             related,
             others: Others::NONE,
+            is_counted: false,
+        })?;
+        Ok(())
+    }
+
+    /// Adds what is wrong there to the report of this index, which has the same problem. If its message does not name the part,
+    /// it is found apart, for what fixes reports.
+    pub(crate) fn join(
+        &mut self,
+        index: usize,
+        span: Span,
+        problem: Problem<'a>,
+    ) -> Result<(), AllocError> {
+        let Some(report) = self.found.get_mut(index) else {
+            return Ok(());
+        };
+        if report.others.add(span) {
+            return Ok(());
+        }
+        self.found.push(Found {
+            span,
+            problem,
+            related: None,
+            others: Others::NONE,
+            is_counted: true,
         })?;
         Ok(())
     }
