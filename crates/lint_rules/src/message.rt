@@ -11,7 +11,7 @@ const MAX_BYTES: usize = 32;
 
 /// A part of a pattern in a message; of a long one the beginning.
 #[derive(Clone, Copy)]
-struct Part<'a>(&'a str);
+pub(crate) struct Part<'a>(pub(crate) &'a str);
 
 impl fmt::Display for Part<'_> {
     fn fmt<W: fmt::Write>(&self, f: &mut fmt::Formatter<W>) -> fmt::Result {
@@ -233,6 +233,7 @@ impl fmt::Display for Message<'_> {
                     "{first} (branch {earlier}) matches the backslash of {part}"
                 )
             }
+            Problem::EmptyAtEnd => write!(f, "{part} at the end matches nothing"),
             Problem::ExponentialBacktracking { text } => {
                 write!(f, "exponential backtracking on {text}")
             }

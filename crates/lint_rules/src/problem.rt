@@ -1,6 +1,6 @@
 //! What `lint` finds in a pattern.
 use crate::attack_text::AttackText;
-use crate::message::Message;
+use crate::message::{Message, Part};
 use crate::rule::Rule;
 use class_rules::class_problem::{ClassFinding, ClassLook, ClassProblem};
 use dialects::difference::Difference;
@@ -72,6 +72,8 @@ pub enum Problem<'a> {
     UnusedEscape {
         earlier: usize,
     },
+    /// A lazy quantifier at the end that may repeat zero times, so that it matches nothing.
+    EmptyAtEnd,
     /// A repeat that can match a text in exponentially many ways.
     ExponentialBacktracking {
         text: AttackText<'a>,
@@ -173,6 +175,8 @@ pub enum Help<'a> {
     WholePattern,
     /// About `[^..]{0}`, with these items in the class.
     NotBefore { items: &'a str },
+    /// About a part at the end that matches nothing.
+    Remove { part: &'a str },
     /// About a class that is likely meant as something else.
     Class(ClassLook),
     /// About what other dialects read otherwise.
@@ -191,6 +195,11 @@ impl fmt::Display for Help<'_> {
                 f,
                 "remove the quantifier with its operand, or did you mean `(?<!{})`?",
                 Shown(items)
+            ),
+            Help::Remove { part } => write!(
+                f,
+                "remove {}, or write after it what ends the match, as `$`",
+                Part(part)
             ),
             Help::Class(look) => f.write_str(look.advice()),
             Help::Dialect(difference) => f.write_str(difference.advice()),
@@ -268,6 +277,7 @@ impl<'a> Found<'a> {
                 Some(items) => Help::NotBefore { items },
                 None => rule,
             },
+            Problem::EmptyAtEnd => Help::Remove { part: text },
             Problem::Class(ClassProblem::SuspiciousClass(look)) => Help::Class(look),
             Problem::Class(ClassProblem::BarBetweenEscapes) => Help::Class(ClassLook::Alternatives),
             Problem::DialectDifference { difference } => Help::Dialect(difference),
@@ -322,6 +332,7 @@ impl Problem<'_> {
             Problem::DuplicateBranch { .. } => Rule::DuplicateBranch,
             Problem::UnreachableBranch { .. } => Rule::UnreachableBranch,
             Problem::UnusedEscape { .. } => Rule::UnusedEscape,
+            Problem::EmptyAtEnd => Rule::LazyAtEnd,
             Problem::ExponentialBacktracking { .. } => Rule::ExponentialBacktracking,
             Problem::PolynomialBacktracking { .. } => Rule::PolynomialBacktracking,
             Problem::UselessFlag { .. } => Rule::UselessFlag,

@@ -6,7 +6,7 @@ use crate::classes::{Form, is_single_character_class};
 use crate::empty::is_useless_look_around;
 use crate::fingerprint::Fingerprint;
 use crate::neighbours::{Neighbour, beside, is_variable, never_holds};
-use crate::quantifiers::{Surroundings, has_count_above_one, quantifier_rule};
+use crate::quantifiers::{Surroundings, has_count_above_one, quantifier_problem};
 use crate::targets::{
     is_numbered_reference, is_unresolved_call, missing_begin_group, missing_condition_group,
     missing_group,
@@ -115,8 +115,7 @@ fn node_problem(
     if let Some(problem) = reference_problem(tree, span, about) {
         return Some(problem);
     }
-    let rule = quantifier_rule(tree, around.surroundings(about))?;
-    Some(Problem::Plain(rule))
+    quantifier_problem(tree, around.surroundings(about))
 }
 
 /// What follows the child of this index, where this follows the node itself.
