@@ -104,7 +104,7 @@ pub(crate) fn lint(
         return Ok(Rewriting::Stays(not_parsed(chosen.dialect, tally)));
     };
     let levels = levels_in(subject.pattern, &parsed.trivia, chosen);
-    let slow = SlowParts::of(subject.alloc, &parsed, &levels, known)?;
+    let slow = SlowParts::in_dialect(subject, &parsed, &levels, known)?;
     let Some(mut found) = reported(subject, &parsed, grammar, &levels, known, &slow)? else {
         tally.pass_over();
         return Ok(Rewriting::Stays(Outcome::Good));
