@@ -1,4 +1,6 @@
 //! What `lint` finds in a pattern.
+ghost use Rattle.std.specs.Prelude.{Some, IsTrue, Contains};
+
 use crate::attack_text::AttackText;
 use crate::message::{Message, Part};
 use crate::rule::Rule;
@@ -139,12 +141,13 @@ impl Others {
     }
 
     /// Adds a part after the others, and returns whether the message names it.
-    pub fn add(&mut self, span: Span) -> bool {
-        for one in self.named.iter_mut() {
-            if one.is_none() {
-                *one = Some(span);
-                return true;
-            }
+    pub fn add(&mut self, span: Span) -> bool
+        ensures { IsTrue result → Contains self.new.named (Some span) }
+    {
+        let count = self.named.iter().flatten().count();
+        if count < self.named.len() {
+            self.named[count] = Some(span);
+            return true;
         }
         self.more = self.more.saturating_add(1);
         false

@@ -1,4 +1,7 @@
 //! The rules that look at a node, or at the branches of one.
+ghost use Rattle.std.specs.Prelude.{OnOk};
+ghost use Rattle.patterns_lint.specs.Named.{IsNamed};
+
 use crate::branches::{
     Earlier, Following, Situation, has_count_twin, is_word_list, only_character,
 };
@@ -230,7 +233,9 @@ impl<'b> AltBranches<'b> {
         span: Span,
         problem: Problem<'static>,
         walk: &mut Walk<'_>,
-    ) -> Result<(), AllocError> {
+    ) -> Result<(), AllocError>
+        ensures { OnOk result (IsNamed walk.new.found.items span) }
+    {
         if let Some(index) = self.duplicates {
             return walk.join(index, span, problem);
         }
