@@ -1,6 +1,6 @@
 -- What other dialects read otherwise, by a node and its text.
-use Rattle.std.specs.Prelude.{◌≡◌, ◌==◌, ◌&&◌, ℕ, Bool, true, false, List, [], ◌∷◌, codes, Contains}
-use Rattle.fancy_grammar.specs.Tree.{Tree, assertion, literal, delegate, subroutine_call, repeat, concat}
+use Rattle.std.specs.Prelude.{◌≡◌, ◌⊎◌, ◌==◌, ◌&&◌, ℕ, Bool, true, false, List, [], ◌∷◌, codes, Contains}
+use Rattle.fancy_grammar.specs.Tree.{Tree, any, assertion, literal, delegate, subroutine_call, repeat, concat}
 use Rattle.dialects.specs.declared.difference.Difference.{Difference}
 use Rattle.dialects.specs.declared.difference.Difference.TheVariants as difference
 
@@ -11,6 +11,27 @@ digit_escapes = codes "\\h" ∷ codes "\\H" ∷ []
 -- the escapes for the start and the end of a word
 abbrev pub word_escapes : List (List ℕ)
 word_escapes = codes "\\<" ∷ codes "\\>" ∷ []
+
+-- the escapes for the start and the end of the text, and for where the last match ended
+abbrev pub position_escapes : List (List ℕ)
+position_escapes = codes "\\A" ∷ codes "\\G" ∷ codes "\\z" ∷ []
+
+-- the escapes for control characters whose letters JavaScript does not escape
+abbrev pub control_escapes : List (List ℕ)
+control_escapes = codes "\\a" ∷ codes "\\e" ∷ []
+
+-- the escapes for where the match is to start, and for a line break
+abbrev pub match_escapes : List (List ℕ)
+match_escapes = codes "\\K" ∷ codes "\\R" ∷ []
+
+-- one of the escapes, each a backslash and a letter, that JavaScript reads as the letter
+abbrev pub IsLetterEscape : List ℕ → Type 0
+IsLetterEscape w = Contains position_escapes w ⊎ Contains control_escapes w ⊎ Contains match_escapes w
+
+-- whether it is a dot, or an escape that is like one
+abbrev pub is_any : Tree → Bool
+is_any (any newline crlf) = true
+is_any _ = false
 
 -- whether it is a class
 abbrev pub is_class : Tree → Bool
@@ -54,6 +75,9 @@ IsSpelled difference.HexadecimalDigit t w = (is_class t ≡ true) × Contains di
 IsSpelled difference.VerticalTab t w = (is_literal t ≡ true) × (w ≡ codes "\\v")
 IsSpelled difference.WordBoundary t w = (is_assertion t ≡ true) × Contains word_escapes w
 IsSpelled difference.EndOfText t w = (is_assertion t ≡ true) × (w ≡ codes "\\Z")
+IsSpelled difference.EscapedLetter t w = (is_call t ≡ true) ⊎ IsLetterEscape w
+IsSpelled difference.AnyButLineFeed t w = (is_any t ≡ true) × (w ≡ codes "\\N")
+IsSpelled difference.AnyCharacter t w = (is_any t ≡ true) × (w ≡ codes "\\O")
 IsSpelled difference.NumberedCall t w = is_call t ≡ true
 IsSpelled difference.RepeatedBraces t w = is_repeat_of_repeat t ≡ true
 IsSpelled difference.MissingCount t w = is_repeat_from_zero t ≡ true

@@ -1,6 +1,7 @@
 //! The items of classes. A class is one node, so its text is read again.
 use crate::difference::Difference;
 use fancy_syntax::span::Span;
+use std::alloc::{AllocError, Global};
 
 /// An item of a class that other dialects read otherwise.
 #[derive(Clone, Copy)]
@@ -12,12 +13,16 @@ pub(crate) struct ClassItem {
 }
 
 impl ClassItem {
+    /// The offset of its end in the class.
+    fn end(self) -> usize {
+        self.start.saturating_add(self.len)
+    }
+
     /// Its span, if the class begins there.
     pub(crate) fn span_from(self, class: usize) -> Span {
-        let start = class.saturating_add(self.start);
         Span {
-            start,
-            end: start.saturating_add(self.len),
+            start: class.saturating_add(self.start),
+            end: class.saturating_add(self.end()),
         }
     }
 }
@@ -36,6 +41,7 @@ fn of_escape(c: char) -> Option<Difference> {
     match c {
         'h' | 'H' => Some(Difference::HexadecimalDigit),
         'v' => Some(Difference::VerticalTab),
+        'a' | 'e' => Some(Difference::EscapedLetter),
         _ => None,
     }
 }
@@ -64,46 +70,48 @@ fn closing_bracket(class: &str) -> Option<ClassItem> {
     })
 }
 
-/// The first item of the class that other dialects read otherwise. After a hexadecimal escape with layout none is looked for.
-pub(crate) fn in_class(class: &str) -> Option<ClassItem> {
-    if let Some(item) = closing_bracket(class) {
-        return Some(item);
+/// The item whose character is at the offset, with its backslash if it is escaped; `rest` is what follows it.
+fn item_at(i: usize, c: char, rest: &str, is_escaped: bool) -> Option<ClassItem> {
+    if is_escaped {
+        return Some(ClassItem {
+            start: i.saturating_sub(1),
+            len: 2,
+            difference: of_escape(c)?,
+        });
     }
-    let mut is_escaped = false;
+    let difference = of_character(c, rest, i > 0)?;
+    let len = if difference == Difference::Intersection {
+        2
+    } else {
+        1
+    };
+    Some(ClassItem {
+        start: i,
+        len,
+        difference,
+    })
+}
+
+/// The items of the class that other dialects read otherwise, in the order of its text. After a hexadecimal escape with layout
+/// none is looked for.
+pub(crate) fn items_in(alloc: Global, class: &str) -> Result<Vec<ClassItem>, AllocError> {
+    let mut items = Vec::new(alloc);
+    if let Some(item) = closing_bracket(class) {
+        items.push(item)?;
+    }
+    let (mut is_escaped, mut end) = (false, 0usize);
     for (i, c) in class.char_indices() {
-        let rest = class.get(i.saturating_add(c.len_utf8())..)?;
+        let rest = class.get(i.saturating_add(c.len_utf8())..).unwrap_or("");
         if is_escaped && matches!(c, 'x' | 'u' | 'U') && !has_no_layout(rest) {
-            return None;
+            break;
         }
-        let found = if is_escaped {
-            of_escape(c)
-        } else {
-            of_character(c, rest, i > 0)
-        };
-        if let Some(difference) = found {
-            return Some(item_at(i, is_escaped, difference));
+        if i >= end
+            && let Some(item) = item_at(i, c, rest, is_escaped)
+        {
+            end = item.end();
+            items.push(item)?;
         }
         is_escaped = c == '\\' && !is_escaped;
     }
-    None
-}
-
-/// The item whose character is at the offset, with its backslash if it is escaped.
-fn item_at(i: usize, is_escaped: bool, difference: Difference) -> ClassItem {
-    if is_escaped {
-        return ClassItem {
-            start: i.saturating_sub(1),
-            len: 2,
-            difference,
-        };
-    }
-    ClassItem {
-        start: i,
-        len: if difference == Difference::Intersection {
-            2
-        } else {
-            1
-        },
-        difference,
-    }
+    Ok(items)
 }

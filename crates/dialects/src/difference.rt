@@ -15,6 +15,12 @@ pub enum Difference {
     EndOfText,
     /// `\N` before a brace that is a literal.
     NamedCharacter,
+    /// `\A`, `\a` and other letters that JavaScript reads as they are.
+    EscapedLetter,
+    /// `\N`.
+    AnyButLineFeed,
+    /// `\O`.
+    AnyCharacter,
     /// `\g1`.
     NumberedCall,
     /// `(?(word)..)`.
@@ -79,13 +85,19 @@ const NO_CLASS_OPERATORS: &[Dialect] = &[
 ];
 
 /// The rows of all differences, in the order of the variants.
-static ROWS: [DifferenceRow; 16] = [
+static ROWS: [DifferenceRow; 19] = [
     DifferenceRow {
         here: r"`\h` and `\H` are about hexadecimal digits",
-        readings: &[Reading {
-            what: "about blanks",
-            dialects: JAVA_PCRE_PERL,
-        }],
+        readings: &[
+            Reading {
+                what: "about blanks",
+                dialects: JAVA_PCRE_PERL,
+            },
+            Reading {
+                what: "these letters",
+                dialects: &[Dialect::JavaScript],
+            },
+        ],
         advice: r"write `[0-9A-Fa-f]` for a hexadecimal digit, or `[ \t]` for a blank",
     },
     DifferenceRow {
@@ -115,6 +127,10 @@ static ROWS: [DifferenceRow; 16] = [
                 what: "none",
                 dialects: &[Dialect::Python],
             },
+            Reading {
+                what: "is the letter",
+                dialects: &[Dialect::JavaScript],
+            },
         ],
         advice: r"write `\z` for the end of the text, or `(?=\n?\z)` to allow a line feed after it",
     },
@@ -127,11 +143,41 @@ static ROWS: [DifferenceRow; 16] = [
         advice: r"write the code of the character, as in `\x{2014}`, or `\{` for the brace",
     },
     DifferenceRow {
-        here: r"`\g` and digits call a group",
+        here: "the backslash makes the letter an escape",
         readings: &[Reading {
-            what: "are a back reference",
-            dialects: PCRE_PERL,
+            what: "leaves it a letter",
+            dialects: &[Dialect::JavaScript],
         }],
+        advice: r"write `^` or `$` for the start or the end of the text, or the code of the character, as `\x1B`",
+    },
+    DifferenceRow {
+        here: r"`\N` is any character but a line feed",
+        readings: &[Reading {
+            what: "the letter",
+            dialects: &[Dialect::JavaScript, Dialect::Ruby],
+        }],
+        advice: r"write `[^\n]`",
+    },
+    DifferenceRow {
+        here: r"`\O` is any character",
+        readings: &[Reading {
+            what: "the letter",
+            dialects: &[Dialect::JavaScript, Dialect::Perl, Dialect::Ruby],
+        }],
+        advice: r"write `[\s\S]`",
+    },
+    DifferenceRow {
+        here: r"`\g` and digits call a group",
+        readings: &[
+            Reading {
+                what: "are a back reference",
+                dialects: PCRE_PERL,
+            },
+            Reading {
+                what: "are these characters",
+                dialects: &[Dialect::JavaScript],
+            },
+        ],
         advice: r"write `\1` for a back reference to group 1, or `\g<1>` for a call",
     },
     DifferenceRow {

@@ -43,6 +43,66 @@ fn is_numbered_call(text: &str) -> bool {
     number.starts_with(|c: char| c.is_ascii_digit())
 }
 
+/// Whether it is an escape for any character but a line feed.
+fn is_line_escape(text: &str) -> bool
+    ensures { IsTrue result ↔ (text.now ≡ codes "\\N") }
+{
+    text == r"\N"
+}
+
+/// Whether it is the escape for any character.
+fn is_any_escape(text: &str) -> bool
+    ensures { IsTrue result ↔ (text.now ≡ codes "\\O") }
+{
+    text == r"\O"
+}
+
+/// Whether it is an escape for the start or the end of the text, or for where the last match ended.
+fn is_position_escape(text: &str) -> bool
+    ensures { IsTrue result ↔ Contains spec.position_escapes text.now }
+{
+    matches!(text, r"\A" | r"\G" | r"\z")
+}
+
+/// Whether it is an escape for a control character that JavaScript reads as the letter.
+fn is_control_escape(text: &str) -> bool
+    ensures { IsTrue result ↔ Contains spec.control_escapes text.now }
+{
+    matches!(text, r"\a" | r"\e")
+}
+
+/// Whether it is the escape for where the match is to start, or for a line break.
+fn is_match_escape(text: &str) -> bool
+    ensures { IsTrue result ↔ Contains spec.match_escapes text.now }
+{
+    matches!(text, r"\K" | r"\R")
+}
+
+/// What a leaf is that some dialects read as a letter; nothing for another node.
+fn of_letter(leaf: &Expr, text: &str) -> Option<Difference>
+    ensures { IfSome result (λ d. spec.IsSpelled d (view leaf.now) text.now) }
+{
+    if let Expr::Any { .. } = leaf
+        && is_line_escape(text)
+    {
+        return Some(Difference::AnyButLineFeed);
+    }
+    if let Expr::Any { .. } = leaf
+        && is_any_escape(text)
+    {
+        return Some(Difference::AnyCharacter);
+    }
+    if let Expr::SubroutineCall(_) = leaf
+        && text.starts_with(r"\g")
+    {
+        return Some(Difference::EscapedLetter);
+    }
+    if is_position_escape(text) || is_control_escape(text) || is_match_escape(text) {
+        return Some(Difference::EscapedLetter);
+    }
+    None
+}
+
 /// What a leaf is that has this text; nothing for another node.
 pub(crate) fn of_leaf(leaf: &Expr, text: &str) -> Option<Difference>
     ensures { IfSome result (λ d. spec.IsSpelled d (view leaf.now) text.now) }
@@ -72,7 +132,7 @@ pub(crate) fn of_leaf(leaf: &Expr, text: &str) -> Option<Difference>
     {
         return Some(Difference::NumberedCall);
     }
-    None
+    of_letter(leaf, text)
 }
 
 /// What two nodes with these texts are, the second of which begins where the first ends.

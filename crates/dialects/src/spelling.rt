@@ -2,7 +2,7 @@
 ghost use Rattle.std.specs.Prelude.{◌≡◌, true, Some};
 ghost use Rattle.dialects.specs.declared.difference.Difference.TheVariants as difference;
 
-use crate::class_item::in_class;
+use crate::class_item::items_in;
 use crate::difference::Difference;
 use crate::node_spelling::{of_condition, of_leaf, of_pair, of_repeat};
 use fancy_syntax::expr::Expr;
@@ -67,10 +67,10 @@ impl SpellingSearch<'_> {
     fn look_at_class(&mut self, class: SpannedNode<'_>) -> Result<(), AllocError> {
         let Span { start, .. } = class.span();
         let text = class.text(self.pattern).unwrap_or("");
-        match in_class(text) {
-            Some(item) => self.add(item.span_from(start), Some(item.difference)),
-            None => Ok(()),
+        for item in &items_in(*self.found.allocator(), text)? {
+            self.add(item.span_from(start), Some(item.difference))?;
         }
+        Ok(())
     }
 
     /// Looks at a node.
@@ -86,8 +86,8 @@ impl SpellingSearch<'_> {
     }
 }
 
-/// The spellings that other dialects read otherwise, in preorder of the nodes of the pattern's tree, which are given. Of a
-/// class only the first one is among them. A flag has no node: see `of_flag`.
+/// The spellings that other dialects read otherwise, in preorder of the nodes of the pattern's tree, which are given. A flag has
+/// no node: see `of_flag`.
 pub fn spellings(
     alloc: Global,
     pattern: &str,

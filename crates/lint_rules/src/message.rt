@@ -11,7 +11,7 @@ const MAX_BYTES: usize = 32;
 
 /// A part of a pattern in a message; of a long one the beginning.
 #[derive(Clone, Copy)]
-struct Part<'a>(&'a str);
+pub(crate) struct Part<'a>(pub(crate) &'a str);
 
 impl fmt::Display for Part<'_> {
     fn fmt<W: fmt::Write>(&self, f: &mut fmt::Formatter<W>) -> fmt::Result {
@@ -34,10 +34,7 @@ struct Parts<'a> {
 impl Parts<'_> {
     /// The verb after one of them, or after several.
     fn verb(self) -> &'static str {
-        match self.others.named {
-            [None, ..] => "is",
-            [Some(_), ..] => "are",
-        }
+        if self.others.is_empty() { "is" } else { "are" }
     }
 }
 
@@ -162,6 +159,19 @@ impl Message<'_> {
         }
     }
 
+    /// Writes which branches are equal to earlier ones, the first of them to the one of this number.
+    fn write_duplicate<W: fmt::Write>(
+        &self,
+        f: &mut fmt::Formatter<W>,
+        earlier: usize,
+    ) -> fmt::Result {
+        let parts = self.parts();
+        if self.others.is_empty() {
+            return write!(f, "{parts} is branch {earlier} already");
+        }
+        write!(f, "{parts} repeat earlier branches")
+    }
+
     /// Writes what is wrong with a branch that an earlier one leaves nothing to match.
     fn write_unreachable<W: fmt::Write>(
         &self,
@@ -214,9 +224,7 @@ impl fmt::Display for Message<'_> {
             Problem::UnusedCapturingGroup { group } => {
                 write!(f, "group {group} has no name, and nothing refers to it")
             }
-            Problem::DuplicateBranch { earlier } => {
-                write!(f, "{part} is branch {earlier} already")
-            }
+            Problem::DuplicateBranch { earlier } => self.write_duplicate(f, earlier),
             Problem::UnreachableBranch { earlier } => self.write_unreachable(f, earlier),
             Problem::UnusedEscape { earlier } => {
                 let first = Part(self.related);
@@ -225,6 +233,7 @@ impl fmt::Display for Message<'_> {
                     "{first} (branch {earlier}) matches the backslash of {part}"
                 )
             }
+            Problem::EmptyAtEnd => write!(f, "{part} at the end matches nothing"),
             Problem::ExponentialBacktracking { text } => {
                 write!(f, "exponential backtracking on {text}")
             }

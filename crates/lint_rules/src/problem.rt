@@ -1,6 +1,8 @@
 //! What `lint` finds in a pattern.
+ghost use Rattle.std.specs.Prelude.{Some, IsTrue, Contains};
+
 use crate::attack_text::AttackText;
-use crate::message::Message;
+use crate::message::{Message, Part};
 use crate::rule::Rule;
 use class_rules::class_problem::{ClassFinding, ClassLook, ClassProblem};
 use dialects::difference::Difference;
@@ -72,6 +74,8 @@ pub enum Problem<'a> {
     UnusedEscape {
         earlier: usize,
     },
+    /// A lazy quantifier at the end that may repeat zero times, so that it matches nothing.
+    EmptyAtEnd,
     /// A repeat that can match a text in exponentially many ways.
     ExponentialBacktracking {
         text: AttackText<'a>,
@@ -135,15 +139,22 @@ impl Others {
         more: 0,
     };
 
-    /// Adds a part after the others.
-    pub fn add(&mut self, span: Span) {
-        for one in self.named.iter_mut() {
-            if one.is_none() {
-                *one = Some(span);
-                return;
-            }
+    /// Whether there is none.
+    pub fn is_empty(&self) -> bool {
+        matches!(self.named, [None, ..])
+    }
+
+    /// Adds a part after the others, and returns whether the message names it.
+    pub fn add(&mut self, span: Span) -> bool
+        ensures { IsTrue result → Contains self.new.named (Some span) }
+    {
+        let count = self.named.iter().flatten().count();
+        if count < self.named.len() {
+            self.named[count] = Some(span);
+            return true;
         }
         self.more = self.more.saturating_add(1);
+        false
     }
 }
 
@@ -156,6 +167,8 @@ pub struct Found<'a> {
     pub related: Option<Related>,
     /// The parts after it with the same problem.
     pub others: Others,
+    /// Whether it is no report of its own: the message of an earlier one with the same problem counts it.
+    pub is_counted: bool,
 }
 
 /// What to do about a problem.
@@ -169,6 +182,8 @@ pub enum Help<'a> {
     WholePattern,
     /// About `[^..]{0}`, with these items in the class.
     NotBefore { items: &'a str },
+    /// About a part at the end that matches nothing.
+    Remove { part: &'a str },
     /// About a class that is likely meant as something else.
     Class(ClassLook),
     /// About what other dialects read otherwise.
@@ -187,6 +202,11 @@ impl fmt::Display for Help<'_> {
                 f,
                 "remove the quantifier with its operand, or did you mean `(?<!{})`?",
                 Shown(items)
+            ),
+            Help::Remove { part } => write!(
+                f,
+                "remove {}, or write after it what ends the match, as `$`",
+                Part(part)
             ),
             Help::Class(look) => f.write_str(look.advice()),
             Help::Dialect(difference) => f.write_str(difference.advice()),
@@ -230,6 +250,7 @@ impl<'a> Found<'a> {
             problem: Problem::Class(finding.problem),
             related,
             others: Others::NONE,
+            is_counted: false,
         }
     }
 
@@ -258,10 +279,12 @@ impl<'a> Found<'a> {
                 (None, Problem::GroupZero) => Help::WholePattern,
                 (None, _) => rule,
             },
+            Problem::DuplicateBranch { .. } if !self.others.is_empty() => Help::Rule("remove them"),
             Problem::Plain(Rule::ZeroQuantifier) => match negated_class(text) {
                 Some(items) => Help::NotBefore { items },
                 None => rule,
             },
+            Problem::EmptyAtEnd => Help::Remove { part: text },
             Problem::Class(ClassProblem::SuspiciousClass(look)) => Help::Class(look),
             Problem::Class(ClassProblem::BarBetweenEscapes) => Help::Class(ClassLook::Alternatives),
             Problem::DialectDifference { difference } => Help::Dialect(difference),
@@ -316,6 +339,7 @@ impl Problem<'_> {
             Problem::DuplicateBranch { .. } => Rule::DuplicateBranch,
             Problem::UnreachableBranch { .. } => Rule::UnreachableBranch,
             Problem::UnusedEscape { .. } => Rule::UnusedEscape,
+            Problem::EmptyAtEnd => Rule::LazyAtEnd,
             Problem::ExponentialBacktracking { .. } => Rule::ExponentialBacktracking,
             Problem::PolynomialBacktracking { .. } => Rule::PolynomialBacktracking,
             Problem::QuadraticSearch { .. } => Rule::QuadraticSearch,

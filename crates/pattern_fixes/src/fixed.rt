@@ -102,8 +102,8 @@ impl<'p> ParsedPattern<'p, '_> {
         }
     }
 
-    /// The edits of the first reports, in the order of the text and apart from each other.
-    fn edits(&self, reports: &[FixableReport]) -> Result<Vec<Edit<'p>>, AllocError> {
+    /// The edits that may fix the first of the reports, in the order of the text and apart from each other.
+    pub fn edits(&self, reports: &[FixableReport]) -> Result<Vec<Edit<'p>>, AllocError> {
         let mut edits = Vec::new(self.alloc);
         for report in reports.iter().take(MAX_FIXES) {
             if let Some(edit) = edit_of(self.pattern, *report, reports) {

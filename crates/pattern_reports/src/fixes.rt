@@ -27,7 +27,7 @@ pub struct PartText {
     pub text: String,
 }
 
-/// Adds the report, once for each part that has the problem, if there may be edits that fix it.
+/// Adds the report, once for each part that its message names, if there may be edits that fix it.
 fn add_fixable(found: &Found<'_>, reports: &mut Vec<FixableReport>) -> Result<(), AllocError> {
     let Some(kind) = found.problem.rule().row().fix else {
         return Ok(());
@@ -81,12 +81,14 @@ fn parsed_pattern<'p, 't>(subject: Subject<'p>, parsed: &'t SpannedTree) -> Pars
     }
 }
 
-/// What becomes of the part of the pattern from the first of the reports through the last one, if these are fixed.
+/// What becomes of the part of the pattern from the first of the edits that may fix the reports through the last one, if these
+/// are fixed.
 fn fix_of_several(
     pattern: ParsedPattern<'_, '_>,
     own: &[FixableReport],
 ) -> Result<Option<PartText>, AllocError> {
-    let (Some(first), Some(last)) = (own.first(), own.last()) else {
+    let edits = pattern.edits(own)?;
+    let (Some(first), Some(last)) = (edits.first(), edits.last()) else {
         return Ok(None);
     };
     let Some(text) = pattern.fixed(own)? else {

@@ -15,7 +15,7 @@ use Rattle.pattern_matches.specs.Matches.{Assertions, Matches, LeafMatches, RowM
 use Rattle.pattern_matches.specs.Parts.{Position, Parts, Times}
 use Rattle.pattern_matches.proofs.LeastLemmas.{least}
 use Rattle.patterns_lint.specs.declared.quantifiers.Surroundings.{Surroundings}
-use Rattle.patterns_lint.specs.Quantifiers.{no_limit, is_quantified_assertion, is_empty_loop}
+use Rattle.patterns_lint.specs.Quantifiers.{no_limit, is_quantified_assertion, is_empty_at_end, is_empty_loop, is_lazy_at_end}
 use Rattle.patterns_lint.specs.Empty.{leaf_matches_only_empty, leaf_can_match_empty, matches_only_empty, all_match_only_empty, can_match_empty, all_can_match_empty, any_can_match_empty, matches_everywhere, all_match_everywhere, any_matches_everywhere, has_group, HasOnlyEmptyMatches, HasNoEmptyMatch, HasEachEmptyMatch, IsDecided}
 
 -- ---- only empty parts
@@ -226,6 +226,12 @@ pub quantified : (u : Bool) (t : Tree) → is_quantified_assertion t ≡ true �
 quantified u (over (label.repeat lo hi greedy) t) h =
     only_empty u (repeat t lo hi greedy) (and_parts (matches_only_empty t) (not ((hi == 1) && has_group t)) h).0
 quantified u _ h = absurd (false≢true h)
+
+pub no_turns : (s : Surroundings) (u : Bool) (t : Tree) → is_empty_at_end s t ≡ true → HasEachEmptyMatch u t
+no_turns s u (over (label.repeat lo hi greedy) t) h a p =
+    let none = eqb-true lo 0 (and_parts (is_lazy_at_end s (repeat t lo hi greedy)) (lo == 0) h).1 in
+    record { count = 0; enough = omega (arith, none); few = λ limit. omega arith; turns = refl }
+no_turns s u _ h a p = absurd (false≢true h)
 
 and_last : (b : Bool) → (b && true) ≡ false → b ≡ false
 and_last false h = refl

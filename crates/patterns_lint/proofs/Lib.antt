@@ -1,5 +1,6 @@
 mod BeginningLemmas
 mod BranchLemmas
 mod EmptyLemmas
+mod NamedLemmas
 mod NodeLemmas
 mod SilencedLemmas

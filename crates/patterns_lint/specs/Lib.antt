@@ -4,4 +4,5 @@ pub mod Branches
 pub mod Targets
 pub mod Escapes
 pub mod Neighbours
+pub mod Named
 pub mod Silenced

@@ -1,10 +1,12 @@
 -- Quantifiers that are surely not meant.
 use Rattle.std.specs.Prelude.{ℕ, Bool, false, ◌&&◌, ◌==◌, not, nat_lt, if◌then◌else◌, Option, Some, None}
 use Rattle.fancy_grammar.specs.Tree.{Tree, repeat}
-use Rattle.lint_rules.specs.declared.rule.Rule.{Rule}
+use Rattle.lint_rules.specs.declared.problem.Problem.{Problem}
+use Rattle.lint_rules.specs.declared.problem.Problem.TheVariants as problem
 use Rattle.lint_rules.specs.declared.rule.Rule.TheVariants as rule
 use Rattle.patterns_lint.specs.declared.quantifiers.Surroundings.{Surroundings}
 use Rattle.patterns_lint.specs.Empty.{matches_only_empty, can_match_empty, has_group}
+use Rattle.patterns_lint.specs.Neighbours.{is_optional}
 
 -- the upper count of a quantifier without a limit
 abbrev pub no_limit : ℕ
@@ -29,6 +31,10 @@ abbrev pub is_lazy_at_end : Surroundings → Tree → Bool
 is_lazy_at_end s (repeat t lo hi greedy) = not greedy && nat_lt lo hi && s.is_at_end && not s.has_calls
 is_lazy_at_end _ _ = false
 
+-- such a quantifier that may repeat no times, so that it matches nothing
+abbrev pub is_empty_at_end : Surroundings → Tree → Bool
+is_empty_at_end s t = is_lazy_at_end s t && is_optional t
+
 -- a quantifier whose minimum is above its maximum
 abbrev pub is_invalid_quantifier : Tree → Bool
 is_invalid_quantifier (repeat t lo hi greedy) = nat_lt hi lo
@@ -44,13 +50,14 @@ abbrev pub is_zero_quantifier : Surroundings → Tree → Bool
 is_zero_quantifier s (repeat t lo hi greedy) = (lo == 0) && (hi == 0) && not (s.has_calls && has_group t)
 is_zero_quantifier _ _ = false
 
--- the rule that reports the quantifier of a node, if one does
-abbrev pub quantifier_rule : Surroundings → Tree → Option Rule
-quantifier_rule s t =
-    if is_invalid_quantifier t then Some rule.InvalidQuantifier
-    else if is_zero_quantifier s t then Some rule.ZeroQuantifier
-    else if is_useless_quantifier s t then Some rule.UselessQuantifier
-    else if is_quantified_assertion t then Some rule.QuantifiedAssertion
-    else if is_empty_loop s t then Some rule.EmptyLoop
-    else if is_lazy_at_end s t then Some rule.LazyAtEnd
+-- what is wrong with the quantifier of a node
+abbrev pub quantifier_problem : Surroundings → Tree → Option Problem
+quantifier_problem s t =
+    if is_invalid_quantifier t then Some (problem.Plain rule.InvalidQuantifier)
+    else if is_zero_quantifier s t then Some (problem.Plain rule.ZeroQuantifier)
+    else if is_useless_quantifier s t then Some (problem.Plain rule.UselessQuantifier)
+    else if is_quantified_assertion t then Some (problem.Plain rule.QuantifiedAssertion)
+    else if is_empty_loop s t then Some (problem.Plain rule.EmptyLoop)
+    else if is_empty_at_end s t then Some problem.EmptyAtEnd
+    else if is_lazy_at_end s t then Some (problem.Plain rule.LazyAtEnd)
     else None

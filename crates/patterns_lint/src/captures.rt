@@ -39,6 +39,7 @@ pub(crate) fn missing_captures(
                 problem,
                 related: None,
                 others: Others::NONE,
+                is_counted: false,
             })?;
         }
     }

@@ -148,6 +148,7 @@ fn add_differences(
             problem: Problem::DialectDifference { difference },
             related: None,
             others: Others::NONE,
+            is_counted: false,
         })?;
     }
     Ok(())

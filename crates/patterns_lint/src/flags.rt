@@ -80,6 +80,7 @@ fn report_letters(
                 problem,
                 related: None,
                 others: Others::NONE,
+                is_counted: false,
             })?;
         }
         (rest, flags, is_first) = (letter.rest, letter.after, false);

@@ -80,7 +80,7 @@ fn of_literal(tree: &Expr) -> Neighbour
 }
 
 /// Whether the tree may be repeated no times.
-fn is_optional(tree: &Expr) -> bool
+pub(crate) fn is_optional(tree: &Expr) -> bool
     ensures { result ≡ spec.is_optional (view tree.now) }
 {
     matches!(tree, Expr::Repeat { lo: 0, .. })

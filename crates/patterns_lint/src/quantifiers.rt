@@ -2,13 +2,16 @@
 ghost use Rattle.std.specs.Prelude.{◌≡◌, ℕ, Bool, false, Some, None};
 ghost use Rattle.fancy_grammar.specs.Tree.{Tree, repeat};
 ghost use Rattle.fancy_syntax.specs.View.{view};
+ghost use Rattle.lint_rules.specs.declared.problem.Problem.TheVariants as reported;
 ghost use Rattle.lint_rules.specs.declared.rule.Rule.TheVariants as rule;
 ghost use Rattle.pattern_matches.specs.Defined.{IsDefined};
-ghost use Rattle.patterns_lint.specs.Empty.{HasNoEmptyMatch, HasOnlyEmptyMatches};
+ghost use Rattle.patterns_lint.specs.Empty.{HasEachEmptyMatch, HasNoEmptyMatch, HasOnlyEmptyMatches};
 ghost use Rattle.patterns_lint.specs.Quantifiers as spec;
 
 use crate::empty::{can_match_empty, has_group, matches_only_empty};
+use crate::neighbours::is_optional;
 use fancy_syntax::expr::Expr;
+use lint_rules::problem::Problem;
 use lint_rules::rule::Rule;
 
 /// What the rules on quantifiers know of a node from what is around it.
@@ -55,6 +58,13 @@ fn is_lazy_at_end(tree: &Expr, around: Surroundings) -> bool
         return false;
     };
     !*greedy && *lo < *hi && around.is_at_end && !around.has_calls
+}
+
+/// Whether it is lazy and may repeat zero times, and nothing follows it, so that it matches nothing.
+fn is_empty_at_end(tree: &Expr, around: Surroundings) -> bool
+    ensures { result ≡ spec.is_empty_at_end around (view tree.now) }
+{
+    is_lazy_at_end(tree, around) && is_optional(tree)
 }
 
 /// Whether its minimum is above its maximum.
@@ -106,27 +116,30 @@ fn is_zero_quantifier(tree: &Expr, around: Surroundings) -> bool
     !(around.has_calls && has_group(child))
 }
 
-/// The rule that reports the node's quantifier.
-pub(crate) fn quantifier_rule(tree: &Expr, around: Surroundings) -> Option<Rule>
-    ensures form { result ≡ spec.quantifier_rule around (view tree.now) }
-    ensures assertion { (unicode : Bool) → result ≡ Some rule.QuantifiedAssertion → IsDefined unicode (view tree.now) →
-        HasOnlyEmptyMatches unicode (view tree.now) }
+/// What is wrong with the node's quantifier.
+pub(crate) fn quantifier_problem(tree: &Expr, around: Surroundings) -> Option<Problem<'static>>
+    ensures form { result ≡ spec.quantifier_problem around (view tree.now) }
+    ensures assertion { (unicode : Bool) → result ≡ Some (reported.Plain rule.QuantifiedAssertion) →
+        IsDefined unicode (view tree.now) → HasOnlyEmptyMatches unicode (view tree.now) }
+    ensures empty { (unicode : Bool) → result ≡ Some reported.EmptyAtEnd → HasEachEmptyMatch unicode (view tree.now) }
     ensures no_loop { (unicode : Bool) (t : Tree) (lo : ℕ) (greedy : Bool) → result ≡ None →
         view tree.now ≡ repeat t lo spec.no_limit greedy → around.is_atomic ≡ false → IsDefined unicode t →
         HasNoEmptyMatch unicode t }
 {
     if is_invalid_quantifier(tree) {
-        Some(Rule::InvalidQuantifier)
+        Some(Problem::Plain(Rule::InvalidQuantifier))
     } else if is_zero_quantifier(tree, around) {
-        Some(Rule::ZeroQuantifier)
+        Some(Problem::Plain(Rule::ZeroQuantifier))
     } else if is_useless_quantifier(tree, around) {
-        Some(Rule::UselessQuantifier)
+        Some(Problem::Plain(Rule::UselessQuantifier))
     } else if is_quantified_assertion(tree) {
-        Some(Rule::QuantifiedAssertion)
+        Some(Problem::Plain(Rule::QuantifiedAssertion))
     } else if is_empty_loop(tree, around) {
-        Some(Rule::EmptyLoop)
+        Some(Problem::Plain(Rule::EmptyLoop))
+    } else if is_empty_at_end(tree, around) {
+        Some(Problem::EmptyAtEnd)
     } else if is_lazy_at_end(tree, around) {
-        Some(Rule::LazyAtEnd)
+        Some(Problem::Plain(Rule::LazyAtEnd))
     } else {
         None
     }

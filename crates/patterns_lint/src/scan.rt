@@ -1,4 +1,7 @@
 //! The rules that look at a node, or at the branches of one.
+ghost use Rattle.std.specs.Prelude.{OnOk};
+ghost use Rattle.patterns_lint.specs.Named.{IsNamed};
+
 use crate::branches::{
     Earlier, Following, Situation, has_count_twin, is_word_list, only_character,
 };
@@ -6,7 +9,7 @@ use crate::classes::{Form, is_single_character_class};
 use crate::empty::is_useless_look_around;
 use crate::fingerprint::Fingerprint;
 use crate::neighbours::{Neighbour, beside, is_variable, never_holds};
-use crate::quantifiers::{Surroundings, has_count_above_one, quantifier_rule};
+use crate::quantifiers::{Surroundings, has_count_above_one, quantifier_problem};
 use crate::targets::{
     is_numbered_reference, is_unresolved_call, missing_begin_group, missing_condition_group,
     missing_group,
@@ -115,8 +118,7 @@ fn node_problem(
     if let Some(problem) = reference_problem(tree, span, about) {
         return Some(problem);
     }
-    let rule = quantifier_rule(tree, around.surroundings(about))?;
-    Some(Problem::Plain(rule))
+    quantifier_problem(tree, around.surroundings(about))
 }
 
 /// What follows the child of this index, where this follows the node itself.
@@ -163,6 +165,8 @@ struct AltBranches<'b> {
     may_be_extended: bool,
     has_calls: bool,
     delimiter: Option<char>,
+    /// Where the report on branches that are equal to earlier ones is among those of the walk.
+    duplicates: Option<usize>,
     /// The reports on branches that an earlier one leaves nothing to match, one for each of these.
     unreachable: Vec<UnreachableReport>,
 }
@@ -185,6 +189,7 @@ impl<'b> AltBranches<'b> {
             may_be_extended: around.is_whole && !about.is_complete && is_word_list(all),
             has_calls: about.has_calls,
             delimiter: around.delimiter,
+            duplicates: None,
             unreachable: Vec::new(about.alloc),
         }
     }
@@ -222,6 +227,22 @@ impl<'b> AltBranches<'b> {
         walk.report_beside(span, problem, self.related(problem))
     }
 
+    /// Reports that the branch at the span is equal to an earlier one; if that is reported of another branch, there.
+    fn report_duplicate(
+        &mut self,
+        span: Span,
+        problem: Problem<'static>,
+        walk: &mut Walk<'_>,
+    ) -> Result<(), AllocError>
+        ensures { OnOk result (IsNamed walk.new.found.items span) }
+    {
+        if let Some(index) = self.duplicates {
+            return walk.join(index, span, problem);
+        }
+        self.duplicates = Some(walk.found.len());
+        walk.report_beside(span, problem, self.related(problem))
+    }
+
     /// Reports what is wrong with the branch at the span.
     fn report(
         &mut self,
@@ -231,6 +252,9 @@ impl<'b> AltBranches<'b> {
     ) -> Result<(), AllocError> {
         if let Problem::UnreachableBranch { earlier } = problem {
             return self.report_unreachable(span, earlier, walk);
+        }
+        if let Problem::DuplicateBranch { .. } = problem {
+            return self.report_duplicate(span, problem, walk);
         }
         walk.report_beside(span, problem, self.related(problem))
     }

@@ -104,14 +104,15 @@ pub(crate) fn lint(
         return Ok(Rewriting::Stays(not_parsed(chosen.dialect, tally)));
     };
     let levels = levels_in(subject.pattern, &parsed.trivia, chosen);
-    let slow = SlowParts::of(subject.alloc, &parsed, &levels, known)?;
-    let Some(found) = reported(subject, &parsed, grammar, &levels, known, &slow)? else {
+    let slow = SlowParts::in_dialect(subject, &parsed, &levels, known)?;
+    let Some(mut found) = reported(subject, &parsed, grammar, &levels, known, &slow)? else {
         tally.pass_over();
         return Ok(Rewriting::Stays(Outcome::Good));
     };
     if has_fixes && let Some(text) = fixed(subject, &parsed, &found)? {
         return Ok(Rewriting::Changed(text));
     }
+    found.retain(|one| !one.is_counted);
     reports.problems(subject, &parsed, chosen, &found)?;
     if chosen.is_verbose {
         reports.not_searched(subject, &slow.not_searched)?;
