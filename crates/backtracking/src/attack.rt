@@ -478,8 +478,8 @@ fn find_slow_ending<'a>(
     Ok(None)
 }
 
-/// What to put around the word, so that the steps of a search through the target grow so; `None` if nothing was found. If the
-/// pattern is not tried as a whole, what follows the target has to fail; then nothing is found that takes many starts.
+/// What to put around the word, so that an engine tries all ways through the target; `None` if nothing was found. If the
+/// pattern is tried as a whole, the steps of a search have to grow so; else what follows the target has to fail.
 pub(crate) fn find_attack<'a>(
     alloc: Global,
     target: Target<'a>,
@@ -492,14 +492,11 @@ pub(crate) fn find_attack<'a>(
         return Ok(None);
     }
     let lead = lead_to(alloc, target, surroundings)?;
-    let after = match (&lead, growth) {
-        (Some(lead), _) if surroundings.is_tried(alloc)? => {
+    let after = match &lead {
+        Some(lead) if surroundings.is_tried(alloc)? => {
             find_slow_ending(alloc, target, growth, &lead.text, word, surroundings)?
         }
-        (_, Growth::Search) => None,
-        (_, Growth::Exponential | Growth::Polynomial) => {
-            find_failing_ending(alloc, target, lead.as_ref(), word, surroundings)?
-        }
+        Some(_) | None => { find_failing_ending(alloc, target, lead.as_ref(), word, surroundings)? }
     };
     let Some(after) = after else {
         return Ok(None);
@@ -509,4 +506,30 @@ pub(crate) fn find_attack<'a>(
         None => None,
     };
     Ok(Some(Attack { before, after }))
+}
+
+/// What to put around the word, so that a search goes through the target again from each start; `None` if nothing was found, or
+/// if the pattern is not tried as a whole. A character before the word may keep another branch from a match at the first start.
+pub(crate) fn find_attack_from_each_start<'a>(
+    alloc: Global,
+    target: Target<'a>,
+    word: &[char],
+    surroundings: &mut Surroundings<'a, '_>,
+) -> Result<Option<Attack>, AllocError> {
+    if target.after().is_empty() || !surroundings.is_tried(alloc)? {
+        return Ok(None);
+    }
+    let mut before = Vec::new(alloc);
+    for _ in 0..2 {
+        let growth = Growth::Search;
+        let after = find_slow_ending(alloc, target, growth, &before, word, surroundings)?;
+        if let Some(after) = after {
+            let before = Some(before);
+            return Ok(Some(Attack { before, after }));
+        }
+        if let Some(first) = target.first() {
+            add_other(first, &mut surroundings.sets, &mut before)?;
+        }
+    }
+    Ok(None)
 }

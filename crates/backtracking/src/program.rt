@@ -281,15 +281,11 @@ impl<'s, 'a, 'k> Writing<'s, 'a, 'k> {
     ) -> Result<(), NotWritten> {
         let group = self.group;
         self.add_turns(tree, lo)?;
+        self.group = group;
         if hi == usize::MAX {
-            self.group = group;
             self.add_loop(tree, greedy)
         } else {
-            for _ in lo..hi {
-                self.group = group;
-                self.add_turn(tree, greedy)?;
-            }
-            Ok(())
+            self.add_further_turns(tree, hi.saturating_sub(lo), greedy)
         }
     }
 
@@ -307,12 +303,24 @@ impl<'s, 'a, 'k> Writing<'s, 'a, 'k> {
         Ok(())
     }
 
-    /// Adds the choice of one more turn, or of none.
+    /// Adds at most so many turns, each after the choice of one more, or of the end.
     #[cycle(add_tree)]
-    fn add_turn(&mut self, tree: &'a Expr, greedy: bool) -> Result<(), NotWritten> {
-        let choice = self.add(Instruction::Fail)?;
-        self.add_tree(tree)?;
-        self.set_choice(choice, greedy);
+    fn add_further_turns(
+        &mut self,
+        tree: &'a Expr,
+        count: usize,
+        greedy: bool,
+    ) -> Result<(), NotWritten> {
+        let group = self.group;
+        let mut choices = Vec::new(self.alloc);
+        for _ in 0..count {
+            choices.push(self.add(Instruction::Fail)?)?;
+            self.group = group;
+            self.add_tree(tree)?;
+        }
+        for choice in choices {
+            self.set_choice(choice, greedy);
+        }
         Ok(())
     }
 

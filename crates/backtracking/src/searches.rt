@@ -7,9 +7,8 @@ ghost use Rattle.fancy_syntax.specs.View.{view, views};
 ghost use Rattle.backtracking.specs.SlowSearches.{any_character, has_branches, IsBranchOf, IsSlowFrom, IsSlowSearchIn};
 ghost use Rattle.backtracking.specs.SlowSequences.{IsRepeatOf};
 
-use crate::attack::{Attack, Surroundings, Target, find_attack};
+use crate::attack::{Attack, Surroundings, Target, find_attack_from_each_start};
 use crate::cut::{Cut, SequenceWitness};
-use crate::growth::Growth;
 use crate::known_sets::ClassSets;
 use crate::pieces::{Piece, Reach, pieces_of};
 use crate::repeats::SearchOptions;
@@ -87,8 +86,12 @@ fn look_at_repeat<'a>(
         first: 0,
         last: index,
     };
-    let growth = Growth::Search;
-    let Some(attack) = find_attack(options.alloc, target, growth, &witness.word, surroundings)?
+    let Some(attack) = find_attack_from_each_start(
+        options.alloc,
+        target,
+        &witness.word,
+        surroundings,
+    )?
     else {
         return Ok(None);
     };
