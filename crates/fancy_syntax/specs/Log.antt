@@ -113,12 +113,12 @@ atom_opened start l =
 abbrev pub opened : ℕ → ℕ → Log → Log
 opened start inside l = part_begun inside (atom_opened start l)
 
--- a group of this kind that begins at s, and its contents at t
+-- a group of this kind that begins at s, and its contents at t, with the comments in its opening
 abbrev pub group_opened : GroupKind → State → State → Log → Log
 group_opened h s t l =
     pass (inner_at s (reach_of t.rest)) (pass (opening_of h s t) (opened (reach_of s.rest) (reach_of t.rest) l))
 
--- any other atom that holds branches
+-- any other atom that begins at s, and whose first part, a condition or a branch after `(?~|`, begins at t
 abbrev pub branches_opened : State → State → Log → Log
 branches_opened s t l = pass (inner_at s (reach_of t.rest)) (opened (reach_of s.rest) (reach_of t.rest) l)
 

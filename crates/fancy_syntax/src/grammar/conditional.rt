@@ -40,6 +40,7 @@ pub(crate) fn has_empty_branches(body: &Expr) -> bool
         Expr::Alt(branches) => match branches.as_slice() {
             [branch] => is_empty(branch),
             [branch, other] => is_empty(branch) && is_empty(other),
+            // The choice among several others is an Alt.
             _ => false,
         },
         body => is_empty(body),

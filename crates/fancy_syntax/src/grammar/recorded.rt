@@ -64,7 +64,7 @@ pub(crate) struct LastPiece {
     pub(crate) height: usize,
 }
 
-/// A part of the pattern that no node has, or may have.
+/// A part of the pattern that has no node, or may have none.
 #[derive(Clone, Copy)]
 pub(crate) struct RecordedTrivium {
     pub(crate) start: usize,

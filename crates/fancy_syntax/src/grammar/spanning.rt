@@ -20,8 +20,8 @@ use fancy_lex::counts::Counts;
 use fancy_lex::text::Reach;
 use std::alloc::{AllocError, Global};
 
-/// What is done with the reaches that the parser passes. If no spans are recorded, nothing is done, and calls are
-/// compiled without it.
+/// What is done when the parser has read something. If no spans are recorded, nothing is done, and calls are compiled
+/// without it.
 pub(crate) trait Spanning: Drop {
     /// The log that is recorded, if anything is.
     ghost records: { Self → Log → Type 0 };
@@ -40,12 +40,12 @@ pub(crate) trait Spanning: Drop {
     fn drop_text(&mut self, start: usize, end: usize) -> Result<(), AllocError>
         ensures { (l : Log) → records self.old l → OnOk result (records self.new (text_dropped start end l)) };
 
-    /// A leaf, or an Empty, is there, and becomes the last piece.
+    /// A leaf, or an Empty, between the reaches becomes the last piece.
     fn record_leaf(&mut self, start: usize, end: usize) -> Result<(), AllocError>
         ensures { (l : Log) → records self.old l → OnOk result (records self.new (leaf_recorded start end l)) };
 
-    /// An atom begins at `start`, and what was read of it ends at `end`. If it holds branches, its first part is open;
-    /// otherwise it becomes the last piece.
+    /// An atom begins at `start`, and was read up to `end`, with the comments in it. If it holds branches, the part
+    /// that begins at `end` is open; otherwise the atom becomes the last piece.
     fn begin_atom(
         &mut self,
         alloc: Global,
@@ -81,8 +81,8 @@ pub(crate) trait Spanning: Drop {
     fn end_choice(&mut self, end: usize) -> Result<(), AllocError>
         ensures { (l : Log) → records self.old l → OnOk result (records self.new (choice_ended end l)) };
 
-    /// The open part with this tree ends. Its closing parenthesis begins at the reach, and `rest` follows it. The atom
-    /// becomes the last piece unless a body follows the part.
+    /// The open part, whose contents are the tree, ends. Its closing parenthesis begins at the reach, and `rest`
+    /// follows it. The atom ends too, and becomes the last piece, unless a body follows the part.
     fn end_part(
         &mut self,
         part: &OpenPart,

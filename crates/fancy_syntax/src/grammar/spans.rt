@@ -166,7 +166,7 @@ impl Spans {
         self.put(height, node)
     }
 
-    /// Records a part of the pattern that no node has, or may have.
+    /// Records a part of the pattern that has no node, or may have none.
     fn pass(&mut self, part: RecordedTrivium) -> Result<(), AllocError>
         ensures { OnOk result (log_of self.new ≡ spec.pass (recorded_part part ∷ []) (log_of self.old)) }
     {
@@ -191,7 +191,7 @@ impl Spans {
         }
     }
 
-    /// Records the opening of a group of this kind if it has no node, or may have none.
+    /// Records the opening of a group of this kind if the group has no node, or may have none.
     #[inline(always)]
     fn pass_opening(
         &mut self,
@@ -219,7 +219,7 @@ impl Spans {
         }
     }
 
-    /// An atom begins at the first reach, and its first part at the second.
+    /// Opens an atom that begins at the first reach, and its first part, which begins at the second.
     fn open_atom(&mut self, start: usize, inside: usize) -> Result<(), AllocError>
         ensures { OnOk result (log_of self.new ≡ spec.opened start inside (log_of self.old)) }
     {
@@ -301,7 +301,8 @@ impl Spans {
         self.put(at.saturating_add(bar.before), Recorded::Node { start, end })
     }
 
-    /// Records a leaf, or inline flags, whose tree is an Empty.
+    /// Records an atom that was read at once, but not the comments in it: a leaf, or inline flags, whose tree is an
+    /// Empty.
     #[inline(always)]
     fn record_token(&mut self, start: State, atom: &Expr, end: State) -> Result<(), AllocError>
         ensures { OnOk result (log_of self.new ≡
@@ -318,7 +319,7 @@ impl Spans {
         Ok(())
     }
 
-    /// Opens any other atom that holds branches. Its first part begins at the reach.
+    /// Opens an atom whose first part begins at the reach, and records the comments before that part.
     #[inline(always)]
     fn open(&mut self, alloc: Global, start: State, inside: Reach) -> Result<(), AllocError>
         ensures { OnOk result (log_of self.new ≡ spec.pass (inner_at (state start.entry) inside)
@@ -328,7 +329,8 @@ impl Spans {
         self.pass_start(alloc, start, inside)
     }
 
-    /// Ends a group of one alternation, which `rest` follows. A flag group has no node.
+    /// Ends a group of this kind, which `rest` follows. Its closing parenthesis is recorded if the group has no node,
+    /// or may have none.
     #[inline(always)]
     fn close_group(&mut self, kind: GroupKind, rest: &str) -> Result<(), AllocError>
         ensures { OnOk result (log_of self.new ≡
@@ -353,7 +355,8 @@ impl Spans {
         }
     }
 
-    /// Ends a conditional with this body, whose closing parenthesis begins at the first reach and ends at the second.
+    /// Ends a conditional with this body. If both branches are Empty, only its condition has nodes. Its closing
+    /// parenthesis begins at the first reach, and ends at the second.
     fn close_conditional(&mut self, body: &Expr, paren: Reach, end: Reach) -> Result<(), AllocError>
         ensures { OnOk result (log_of self.new ≡ conditional_recorded (view body.now) paren end (log_of self.old)) }
     {
@@ -377,7 +380,8 @@ impl Spans {
         }
     }
 
-    /// Leaves out all but the condition of the open conditional, which ends there.
+    /// Leaves out the nodes of the open conditional's body, and records as dropped the text before and after its
+    /// condition. The conditional ends there.
     fn drop_conditional(&mut self, end: usize) -> Result<(), AllocError>
         ensures { OnOk result (log_of self.new ≡ spec.conditional_dropped end (log_of self.old)) }
     {
@@ -392,7 +396,7 @@ impl Spans {
         self.fill(condition.closing, end, &body)
     }
 
-    /// Ends the open atom there, with a node of its own. An unnamed group may have no number.
+    /// Ends the open atom there, with a node of its own; if it is unnamed, that of a capturing group without a name.
     fn close(&mut self, end: usize, unnamed: bool) -> Result<(), AllocError>
         ensures { OnOk result (log_of self.new ≡ spec.atom_closed end unnamed (log_of self.old)) }
     {
