@@ -319,16 +319,6 @@ impl Spans {
         Ok(())
     }
 
-    /// Opens an atom whose first part begins at the reach, and records the comments before that part.
-    #[inline(always)]
-    fn open(&mut self, alloc: Global, start: State, inside: Reach) -> Result<(), AllocError>
-        ensures { OnOk result (log_of self.new ≡ spec.pass (inner_at (state start.entry) inside)
-            (spec.opened (reach_of (chars start.entry.rest.now)) inside (log_of self.old))) }
-    {
-        self.open_atom(reach(start.rest), inside)?;
-        self.pass_start(alloc, start, inside)
-    }
-
     /// Ends a group of this kind, which `rest` follows. Its closing parenthesis is recorded if the group has no node,
     /// or may have none.
     #[inline(always)]
@@ -478,14 +468,13 @@ impl Spanning for Spans {
                 self.pass_start(alloc, start, reach(end.rest))
             }
             AtomStart::Condition | AtomStart::AbsentBranch => {
-                self.open(alloc, start, reach(end.rest))
+                self.open_atom(reach(start.rest), reach(end.rest))?;
+                self.pass_start(alloc, start, reach(end.rest))
             }
-            AtomStart::Body {
-                start: condition,
-                ..
-            } => {
-                self.open(alloc, start, *condition)?;
-                self.record_leaf(*condition, reach_before(end.rest))?;
+            AtomStart::Body { start: inside, .. } => {
+                self.open_atom(reach(start.rest), *inside)?;
+                self.pass_start(alloc, start, *inside)?;
+                self.record_leaf(*inside, reach_before(end.rest))?;
                 self.begin_body(end.rest);
                 Ok(())
             }
