@@ -221,7 +221,7 @@ impl Spans {
 
     /// Opens an atom that begins at the first reach, and its first part, which begins at the second.
     fn open_atom(&mut self, start: usize, inside: usize) -> Result<(), AllocError>
-        ensures { OnOk result (log_of self.new ≡ spec.opened start inside (log_of self.old)) }
+        ensures { OnOk result (log_of self.new ≡ spec.atom_opened start inside (log_of self.old)) }
     {
         self.around.reserve(1)?;
         self.around.push_reserved(self.open);
