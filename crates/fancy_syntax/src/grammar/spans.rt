@@ -364,10 +364,10 @@ impl Spans {
     fn end_body(&mut self, body: &Expr, end: usize) -> Result<(), AllocError>
         ensures { OnOk result (log_of self.new ≡ body_separated (view body.now) end (log_of self.old)) }
     {
-        match body {
-            Expr::Alt(branches) => self.split(branches.len()),
-            _ => Ok(self.recorded.push(Recorded::Node { start: end, end })?),
+        if let Expr::Alt(branches) = body {
+            return self.split(branches.len());
         }
+        Ok(self.recorded.push(Recorded::Node { start: end, end })?)
     }
 
     /// Leaves out the nodes of the open conditional's body, and records as dropped the text before and after its
