@@ -350,7 +350,7 @@ impl Spans {
     fn close_conditional(&mut self, body: &Expr, paren: Reach, end: Reach) -> Result<(), AllocError>
         ensures { OnOk result (log_of self.new ≡ conditional_recorded (view body.now) paren end (log_of self.old)) }
     {
-        self.end_body(body, paren)?;
+        self.separate_branches(body, paren)?;
         if !has_empty_branches(body) {
             return self.close(end, false);
         }
@@ -361,7 +361,7 @@ impl Spans {
 
     /// Separates the branches of a conditional's body, which ends there. If it is an Alt, its node is replaced by its first
     /// branch and the choice among the others; otherwise an Empty at its end is the second branch.
-    fn end_body(&mut self, body: &Expr, end: usize) -> Result<(), AllocError>
+    fn separate_branches(&mut self, body: &Expr, end: usize) -> Result<(), AllocError>
         ensures { OnOk result (log_of self.new ≡ body_separated (view body.now) end (log_of self.old)) }
     {
         if let Expr::Alt(branches) = body {
@@ -458,8 +458,8 @@ impl Spanning for Spans {
     ) -> Result<(), AllocError> {
         match atom {
             AtomStart::Nothing => self.record_leaf(reach(start.rest), reach(start.rest)),
-            AtomStart::Read(atom) => {
-                self.record_token(start, atom, end)?;
+            AtomStart::Read(tree) => {
+                self.record_token(start, tree, end)?;
                 self.pass_start(alloc, start, reach(end.rest))
             }
             AtomStart::Group(kind) => {

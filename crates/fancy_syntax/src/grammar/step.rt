@@ -67,9 +67,9 @@ pub(crate) fn read_step<'a, S: Spanning>(
             end_piece(alloc, trees, current, left, depth, spans)?;
             Ok(None)
         }
-        AtomStart::Read(atom) => {
-            found.record(&atom);
-            push(trees, atom)?;
+        AtomStart::Read(tree) => {
+            found.record(&tree);
+            push(trees, tree)?;
             end_piece(alloc, trees, current, left, depth, spans)?;
             Ok(None)
         }
