@@ -1,7 +1,7 @@
 //! The positions of the nodes of a raw tree, and of what no node has, recorded while it is read.
 ghost use Rattle.std.specs.Prelude.{◌≡◌, chars, OnOk};
 ghost use Rattle.fancy_lex.specs.Text.{reach_of};
-ghost use Rattle.fancy_syntax.specs.Log.{Log, leaf_recorded, left_out, wrapped, body_begun, branch_begun};
+ghost use Rattle.fancy_syntax.specs.Log.{Log, leaf_recorded, left_out, wrapped, branch_begun};
 ghost use Rattle.fancy_syntax.specs.Log.{branch_ended, choice_ended, layout_passed, pass, text_dropped};
 ghost use Rattle.fancy_syntax.specs.Machine.{part_of, part_recorded};
 ghost use Rattle.fancy_syntax.specs.Parsed.{state, view_start, HasConditionAt};
@@ -65,10 +65,6 @@ pub(crate) trait Spanning: Drop {
     fn wrap(&mut self, end: usize, atomic: bool) -> Result<(), AllocError>
         ensures { (l : Log) → records self.old l → OnOk result (records self.new (wrapped end atomic l)) };
 
-    /// The open part is a condition whose closing parenthesis was read. The body begins at `rest`.
-    fn begin_body(&mut self, rest: &str)
-        ensures { (l : Log) → records self.old l → records self.new (body_begun (reach_of (chars rest.now)) l) };
-
     /// The next branch begins there, after a bar.
     fn next_branch(&mut self, start: usize)
         ensures { (l : Log) → records self.old l → records self.new (branch_begun start l) };
@@ -82,7 +78,7 @@ pub(crate) trait Spanning: Drop {
         ensures { (l : Log) → records self.old l → OnOk result (records self.new (choice_ended end l)) };
 
     /// The open part, whose contents are the tree, ends. Its closing parenthesis begins at the reach, and `rest`
-    /// follows it. The atom ends too, and becomes the last piece, unless a body follows the part.
+    /// follows it. After a condition the body begins there; otherwise the atom ends too, and becomes the last piece.
     fn end_part(
         &mut self,
         part: &OpenPart,
@@ -144,9 +140,6 @@ impl Spanning for NoSpans {
     fn wrap(&mut self, _end: usize, _atomic: bool) -> Result<(), AllocError> {
         Ok(())
     }
-
-    #[inline(always)]
-    fn begin_body(&mut self, _rest: &str) {}
 
     #[inline(always)]
     fn next_branch(&mut self, _start: usize) {}

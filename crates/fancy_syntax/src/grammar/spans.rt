@@ -115,6 +115,18 @@ impl Spans {
         self.open.pieces = height;
     }
 
+    /// The open part is a condition, which has ended. The body begins at `rest`.
+    fn begin_body(&mut self, rest: &str)
+        ensures { log_of self.new ≡ spec.body_begun (reach_of (chars rest.now)) (log_of self.old) }
+    {
+        self.open.condition = Some(ConditionPart {
+            start: self.open.part,
+            closing: reach_before(rest),
+            passed: self.passed.len(),
+        });
+        self.begin(reach(rest));
+    }
+
     /// Replaces the Alt of that many branches, the body of a conditional, by the first branch and the choice among the
     /// others.
     fn split(&mut self, branches: usize) -> Result<(), AllocError>
@@ -336,15 +348,6 @@ impl Spanning for Spans {
         Ok(())
     }
 
-    fn begin_body(&mut self, rest: &str) {
-        self.open.condition = Some(ConditionPart {
-            start: self.open.part,
-            closing: reach_before(rest),
-            passed: self.passed.len(),
-        });
-        self.begin(reach(rest));
-    }
-
     fn next_branch(&mut self, start: usize) {
         let height = self.recorded.len();
         if self.open.bar.is_none() {
@@ -382,7 +385,11 @@ impl Spanning for Spans {
         rest: &str,
     ) -> Result<(), AllocError> {
         match part {
-            OpenPart::Top | OpenPart::Condition => Ok(()),
+            OpenPart::Top => Ok(()),
+            OpenPart::Condition => {
+                self.begin_body(rest);
+                Ok(())
+            }
             OpenPart::Group { kind, .. } => self.close_group(*kind, rest),
             OpenPart::Body { .. } => self.close_conditional(tree, paren, reach(rest)),
             OpenPart::First => {

@@ -198,7 +198,6 @@ pub(crate) fn close<'a, S: Spanning>(
         return Ok(None);
     }
     let condition = Box::new(alloc, trees.take_last())?;
-    spans.begin_body(current.rest);
     let left = byte_len(current.rest);
     Ok(Some(OpenPart::Body { condition, left }))
 }
