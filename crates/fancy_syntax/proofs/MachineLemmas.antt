@@ -185,18 +185,18 @@ opens_ended n q w (after_branch {a} (a_branch {u} i e) b j) (r, x) g f = (
 )
 
 -- if the atom continues, the body of the conditional comes next
-pub condition_ended : {d : ℕ} {s v t : State} {p : OpenPart} {c : Tree} {l m : Log} (n : Log) (r : Tree) (w : State) →
-    OpensPart d s l p v m → Part p (d + 1) v (done r w) m n → has_body_next p ≡ true →
-    ended_part p r w ≡ done c t → OpensPart d s l (body c (bytes t.rest)) t (body_begun (reach_of t.rest) n)
-condition_ended {d} {s} {v} {t} {c} {l} {m} n r w (a_condition i e) (x, y) g h =
+pub closes_condition : {d : ℕ} {s v t : State} {p : OpenPart} {c : Tree} {l m : Log} (n : Log) (r : Tree) (w : State) →
+    OpensPart d s l p v m → Part p (d + 1) v (done r w) m n → has_body_next p ≡ true → ended_part p r w ≡ done c t →
+    OpensPart d s l (body c (bytes t.rest)) t (part_recorded p r (reach_of w.rest) (reach_of t.rest) n)
+closes_condition {d} {s} {v} {t} {c} {l} {m} n r w (a_condition i e) (x, y) g h =
     let (z, k) = subst (λ o. (a : Inside d v o) × (inside_recorded a m ≡ n)) h (inside x, y) in
     subst (λ n. OpensPart d s l (body c (bytes t.rest)) t (body_begun (reach_of t.rest) n)) k
     (after_condition (a_condition i e) z)
-condition_ended n r w (a_group l e) x g h = absurd (true≢false (sym g))
-condition_ended n r w (a_body l e) x g h = absurd (true≢false (sym g))
-condition_ended n r w (after_condition x y) z g h = absurd (true≢false (sym g))
-condition_ended n r w (a_branch l e) x g h = absurd (true≢false (sym g))
-condition_ended n r w (after_branch x y z) a g h = absurd (true≢false (sym g))
+closes_condition n r w (a_group l e) x g h = absurd (true≢false (sym g))
+closes_condition n r w (a_body l e) x g h = absurd (true≢false (sym g))
+closes_condition n r w (after_condition x y) z g h = absurd (true≢false (sym g))
+closes_condition n r w (a_branch l e) x g h = absurd (true≢false (sym g))
+closes_condition n r w (after_branch x y z) a g h = absurd (true≢false (sym g))
 
 -- an error at the end of a part is the error of the piece
 pub ended_error : {d : ℕ} {s v : State} {error : Located} {p : OpenPart} {l m : Log} (n : Log) (r : Tree) (w : State) →
@@ -252,23 +252,6 @@ pub closes_error : {d left : ℕ} {s v t : State} {a : Tree} {p : OpenPart} {l m
     IsErrorAmong error (Piece d s)
 closes_error {s} n flags r w error x y g f h i j e =
     let (u, c, b) = part_atom n flags r w x y g f h j in steps_error s error i c b.0 e
-
--- if it continues, what comes next
-pub closes_condition : {d : ℕ} {s v t : State} {c : Tree} {p : OpenPart} {l m : Log} (n : Log) (r : Tree) (w : State) →
-    OpensPart d s l p v m → Part p (d + 1) v (done r w) m n → has_body_next p ≡ true → ended_part p r w ≡ done c t →
-    OpensPart d s l (body c (bytes t.rest)) t
-    (body_begun (reach_of t.rest) (part_recorded p r (reach_of w.rest) (reach_of t.rest) n))
-closes_condition {d} {s} {t} {c} {p} {l} n r w x y g h =
-    subst (λ k. OpensPart d s l (body c (bytes t.rest)) t (body_begun (reach_of t.rest) k)) (sym (of_condition p g))
-    (condition_ended n r w x y g h)
-  where
-    of_condition : (p : OpenPart) → has_body_next p ≡ true → part_recorded p r (reach_of w.rest) (reach_of t.rest) n ≡ n
-    of_condition condition g = refl
-    of_condition top g = absurd (true≢false (sym g))
-    of_condition (group h q) g = absurd (true≢false (sym g))
-    of_condition (body c left) g = absurd (true≢false (sym g))
-    of_condition first g = absurd (true≢false (sym g))
-    of_condition (second a) g = absurd (true≢false (sym g))
 
 -- ---- what is read of the innermost part
 

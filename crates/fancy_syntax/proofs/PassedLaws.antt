@@ -26,7 +26,7 @@ use Rattle.fancy_grammar.specs.Trivia.{quants_trivia, alternation_trivia, branch
 use Rattle.fancy_grammar.specs.Trivia.{piece_trivia, atom_trivia, atom_of_trivia, inside_trivia, body_trivia}
 use Rattle.fancy_grammar.proofs.OutcomeLemmas.{Holds}
 use Rattle.fancy_grammar.proofs.TriviaAppend.{inside_alone, alternation_alone}
-use Rattle.fancy_syntax.specs.Log.{Log, wrapped, layout_passed, opened, group_opened, body_opened, body_begun}
+use Rattle.fancy_syntax.specs.Log.{Log, wrapped, layout_passed, atom_opened, group_opened, body_opened, body_begun}
 use Rattle.fancy_syntax.specs.Log.{branch_begun, branch_ended}
 use Rattle.fancy_syntax.specs.Log.{part_dropped, left_out, atom_ended, atom_closed, leaf_recorded}
 use Rattle.fancy_syntax.specs.Log.{branches_opened, pass, text_dropped, inserted, body_dropped, conditional_dropped}
@@ -287,7 +287,8 @@ mutual
       let p = condition_span s t in
       let k = inner_at s p.start in
       body_passed b (body_opened s t l) (reach_of s.rest) p.start l.passed k
-      (body_begins t (leaf_recorded p.start p.end (pass k (opened (reach_of s.rest) p.start l)))) refl refl refl refl
+      (body_begins t (leaf_recorded p.start p.end (pass k (atom_opened (reach_of s.rest) p.start l))))
+      refl refl refl refl
   atom_of_passed {s} (two_branches {t} {u} b e m) l =
       let n = branches_opened s t l in
       branch_passed m (branch_begun (reach_of u) (branch_recorded b n)) ∙ ap (branch_trivia m) (branch_passed b n)

@@ -39,7 +39,7 @@ use Rattle.fancy_grammar.proofs.Slices.{Reads}
 use Rattle.fancy_grammar.proofs.SpansCondition.{ConditionLies, condition_lies}
 use Rattle.fancy_grammar.proofs.SpansLemmas.{Lies, row_at, leaf_lies}
 use Rattle.fancy_grammar.proofs.TreeLaws.{list_back}
-use Rattle.fancy_syntax.specs.Log.{Log, own_node, put, shown, started, leaf_recorded, left_out, opened, part_begun}
+use Rattle.fancy_syntax.specs.Log.{Log, own_node, put, shown, started, leaf_recorded, left_out, atom_opened, part_begun}
 use Rattle.fancy_syntax.specs.Log.{branches_opened}
 use Rattle.fancy_grammar.specs.Trivia.{inner_at}
 use Rattle.fancy_syntax.specs.Log.{body_opened, branch_begun, branch_ended, choice_ended, body_split, branch_lacked}
@@ -133,7 +133,7 @@ within_on h k = record {
   height = k.height ∙ h.height;
 }
 
-opened_within : (start first : ℕ) (l : Log) → Within start l (opened start first l)
+opened_within : (start first : ℕ) (l : Log) → Within start l (atom_opened start first l)
 opened_within start first l = record { around = refl; start_is = refl; height = refl }
 
 -- with the comments in its opening
@@ -874,7 +874,7 @@ module _ (named : Bool) where
         body_as_read s b l (body_opened s t l) (alone p) (Node p.start p.end ∷ [])
         (record { around = w.around; start_is = w.start_is; height = w.height }) refl
         (fits_alone p c z)
-        (body_begins t (leaf_recorded p.start p.end (pass k (opened (reach_of s.rest) p.start l))))
+        (body_begins t (leaf_recorded p.start p.end (pass k (atom_opened (reach_of s.rest) p.start l))))
     atom_of_as {s} (two_branches {t} {v} {u} {a} {q} b e m) l h c =
         let n = branches_opened s t l in
         let k = branch_recorded b n in

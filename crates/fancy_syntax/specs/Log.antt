@@ -104,23 +104,21 @@ begun start height o = record o { part = start; branches = height; bar = None; b
 abbrev pub part_begun : ℕ → Log → Log
 part_begun start l = with_open (begun start (length l.recorded)) l
 
-abbrev pub atom_opened : ℕ → Log → Log
-atom_opened start l =
-    with_open (λ o. record o { start = start; height = length l.recorded; passed = length l.passed })
-    (record l { around = l.around ++ l.open_atom ∷ [] })
-
 -- an atom that begins at the first reach, and its first part at the second
-abbrev pub opened : ℕ → ℕ → Log → Log
-opened start inside l = part_begun inside (atom_opened start l)
+abbrev pub atom_opened : ℕ → ℕ → Log → Log
+atom_opened start inside l =
+    part_begun inside
+    (with_open (λ o. record o { start = start; height = length l.recorded; passed = length l.passed })
+    (record l { around = l.around ++ l.open_atom ∷ [] }))
 
--- a group of this kind that begins at s, and its contents at t
+-- a group of this kind that begins at s, and its contents at t, with the comments in its opening
 abbrev pub group_opened : GroupKind → State → State → Log → Log
 group_opened h s t l =
-    pass (inner_at s (reach_of t.rest)) (pass (opening_of h s t) (opened (reach_of s.rest) (reach_of t.rest) l))
+    pass (inner_at s (reach_of t.rest)) (pass (opening_of h s t) (atom_opened (reach_of s.rest) (reach_of t.rest) l))
 
--- any other atom that holds branches
+-- any other atom that begins at s, and whose first part, a condition or a branch after `(?~|`, begins at t
 abbrev pub branches_opened : State → State → Log → Log
-branches_opened s t l = pass (inner_at s (reach_of t.rest)) (opened (reach_of s.rest) (reach_of t.rest) l)
+branches_opened s t l = pass (inner_at s (reach_of t.rest)) (atom_opened (reach_of s.rest) (reach_of t.rest) l)
 
 -- the open part, a condition, has ended, and after its closing parenthesis the body begins at the reach
 abbrev pub body_begun : ℕ → Log → Log
@@ -133,7 +131,7 @@ abbrev pub body_opened : State → State → Log → Log
 body_opened s t l =
     let p = condition_span s t in
     body_begun (reach_of t.rest)
-    (leaf_recorded p.start p.end (pass (inner_at s p.start) (opened (reach_of s.rest) p.start l)))
+    (leaf_recorded p.start p.end (pass (inner_at s p.start) (atom_opened (reach_of s.rest) p.start l)))
 
 -- the open atom becomes the last piece, and the atom around it is the open one
 abbrev pub atom_ended : Log → Log

@@ -164,7 +164,7 @@ ended_with g r s = if lacks_body (part_of g) s then failed (body_missing s.rest)
 abbrev pub part_recorded : OpenPart → Tree → ℕ → ℕ → Log → Log
 part_recorded top r paren end l = l
 part_recorded (group h p) r paren end l = group_recorded h end l
-part_recorded condition r paren end l = l
+part_recorded condition r paren end l = body_begun end l
 part_recorded (body c left) r paren end l = conditional_recorded r paren end l
 part_recorded first r paren end l = stopper_recorded r end l
 part_recorded (second a) r paren end l = atom_closed end false l

@@ -77,7 +77,7 @@ abbrev pub IsSomething : declared.AtomStart → Type 0
 IsSomething Nothing = ⊥
 IsSomething _ = ⊤
 
--- a condition that is no alternation begins at the reach
+-- if a condition that is no alternation is found, it begins at the reach
 abbrev pub HasConditionAt : declared.AtomStart → ℕ → Type 0
 HasConditionAt (Body c start) n = start ≡ n
 HasConditionAt _ n = ⊤

@@ -96,7 +96,7 @@ token_read s q l = pass (flags_of_atom s q) (leaf_recorded (reach_of s.rest) (en
 abbrev pub atom_read : State → Outcome Tree → Log → Log
 atom_read s q l = pass (inner_at s (end_of q)) (token_read s q l)
 
--- what was read of an atom that begins at s
+-- the start of an atom at s: a whole atom without branches, or what is before the branches of any other
 abbrev pub atom_begun : State → AtomStart → Log → Log
 atom_begun s nothing l = leaf_recorded (reach_of s.rest) (reach_of s.rest) l
 atom_begun s (read o) l = atom_read s o l

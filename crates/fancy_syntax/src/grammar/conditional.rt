@@ -36,13 +36,14 @@ pub(crate) fn has_empty_branches(body: &Expr) -> bool
     ensures { let branches = spec.branches_of (view body.now) in
         result ≡ (join.is_empty branches.0 && join.is_empty branches.1) }
 {
-    match body {
-        Expr::Alt(branches) => match branches.as_slice() {
-            [branch] => is_empty(branch),
-            [branch, other] => is_empty(branch) && is_empty(other),
-            _ => false,
-        },
-        body => is_empty(body),
+    let Expr::Alt(branches) = body else {
+        return is_empty(body);
+    };
+    match branches.as_slice() {
+        [branch] => is_empty(branch),
+        [branch, other] => is_empty(branch) && is_empty(other),
+        // The choice among several others is an Alt.
+        _ => false,
     }
 }
 

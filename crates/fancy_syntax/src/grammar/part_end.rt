@@ -25,7 +25,7 @@ use fancy_lex::text::{AT_END, byte_len, next, reach};
 use std::alloc::{AllocError, Global};
 use std::mem;
 
-/// Reads the closing parenthesis of the part, and makes the tree of its contents the tree of the part.
+/// Reads the closing parenthesis of the part, and turns the tree of its contents into that of the part.
 ///
 /// The error is GeneralParseError if a conditional lacks a body that it needs; otherwise that of `close_paren`.
 pub(crate) fn end_part<S: Spanning>(
@@ -77,7 +77,7 @@ fn lacks_body(open_part: &OpenPart, text: &str) -> bool
     }
 }
 
-/// Makes the tree of the contents of the part the tree of the part. Most parts are groups: this saves each of them the
+/// Turns the tree of the contents of the part into that of the part. Most parts are groups: this saves each of them the
 /// locals of the others.
 #[inline(always)]
 fn node_of_part(alloc: Global, open_part: OpenPart, tree: &mut Expr) -> Result<(), AllocError>

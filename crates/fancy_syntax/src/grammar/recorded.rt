@@ -1,13 +1,6 @@
 //! What is recorded about the positions of nodes, and of what no node has. A position is given as a reach.
 
-ghost use Rattle.std.specs.Prelude.{◌≡◌, chars};
-ghost use Rattle.fancy_lex.specs.Text.{reach_of};
-ghost use Rattle.fancy_grammar.specs.Trivia.{part};
-ghost use Rattle.fancy_syntax.specs.TriviaViews.{kind_of, recorded_part};
-
-use crate::grammar::state::State;
 use crate::trivium::TriviumKind;
-use fancy_lex::text::reach;
 
 /// What is recorded of the raw tree: its nodes, and after the nodes of an Alt its first bar.
 #[derive(Clone, Copy)]
@@ -64,7 +57,7 @@ pub(crate) struct LastPiece {
     pub(crate) height: usize,
 }
 
-/// A part of the pattern that no node has, or may have.
+/// A part of the pattern that has no node, or may have none.
 #[derive(Clone, Copy)]
 pub(crate) struct RecordedTrivium {
     pub(crate) start: usize,
@@ -73,22 +66,4 @@ pub(crate) struct RecordedTrivium {
     /// Whether it is a parenthesis of a capturing group without a name, which has a node unless only named groups have a
     /// number.
     pub(crate) unnamed: bool,
-}
-
-/// The part of the pattern from one state to another.
-pub(crate) fn part_between(
-    start: State,
-    end: State,
-    kind: TriviumKind,
-    unnamed: bool,
-) -> RecordedTrivium
-    ensures { recorded_part result ≡ part (reach_of (chars start.entry.rest.now)) (reach_of (chars end.entry.rest.now))
-        (kind_of kind) unnamed }
-{
-    RecordedTrivium {
-        start: reach(start.rest),
-        end: reach(end.rest),
-        kind,
-        unnamed,
-    }
 }

@@ -1,7 +1,7 @@
 //! The positions of the nodes of a raw tree, and of what no node has, recorded while it is read.
 ghost use Rattle.std.specs.Prelude.{◌≡◌, chars, OnOk};
 ghost use Rattle.fancy_lex.specs.Text.{reach_of};
-ghost use Rattle.fancy_syntax.specs.Log.{Log, leaf_recorded, left_out, wrapped, body_begun, branch_begun};
+ghost use Rattle.fancy_syntax.specs.Log.{Log, leaf_recorded, left_out, wrapped, branch_begun};
 ghost use Rattle.fancy_syntax.specs.Log.{branch_ended, choice_ended, layout_passed, pass, text_dropped};
 ghost use Rattle.fancy_syntax.specs.Machine.{part_of, part_recorded};
 ghost use Rattle.fancy_syntax.specs.Parsed.{state, view_start, HasConditionAt};
@@ -20,8 +20,8 @@ use fancy_lex::counts::Counts;
 use fancy_lex::text::Reach;
 use std::alloc::{AllocError, Global};
 
-/// What is done with the reaches that the parser passes. If no spans are recorded, nothing is done, and calls are
-/// compiled without it.
+/// What is done when the parser has read something. If no spans are recorded, nothing is done, and calls are compiled
+/// without it.
 pub(crate) trait Spanning: Drop {
     /// The log that is recorded, if anything is.
     ghost records: { Self → Log → Type 0 };
@@ -40,12 +40,12 @@ pub(crate) trait Spanning: Drop {
     fn drop_text(&mut self, start: usize, end: usize) -> Result<(), AllocError>
         ensures { (l : Log) → records self.old l → OnOk result (records self.new (text_dropped start end l)) };
 
-    /// A leaf, or an Empty, is there, and becomes the last piece.
+    /// A leaf, or an Empty, between the reaches becomes the last piece.
     fn record_leaf(&mut self, start: usize, end: usize) -> Result<(), AllocError>
         ensures { (l : Log) → records self.old l → OnOk result (records self.new (leaf_recorded start end l)) };
 
-    /// An atom begins at `start`, and what was read of it ends at `end`. If it holds branches, its first part is open;
-    /// otherwise it becomes the last piece.
+    /// An atom begins at `start`, and was read up to `end`, with the comments in it. If it holds branches, the part
+    /// that begins at `end` is open; otherwise the atom becomes the last piece.
     fn begin_atom(
         &mut self,
         alloc: Global,
@@ -65,10 +65,6 @@ pub(crate) trait Spanning: Drop {
     fn wrap(&mut self, end: usize, atomic: bool) -> Result<(), AllocError>
         ensures { (l : Log) → records self.old l → OnOk result (records self.new (wrapped end atomic l)) };
 
-    /// The open part is a condition whose closing parenthesis was read. The body begins at `rest`.
-    fn begin_body(&mut self, rest: &str)
-        ensures { (l : Log) → records self.old l → records self.new (body_begun (reach_of (chars rest.now)) l) };
-
     /// The next branch begins there, after a bar.
     fn next_branch(&mut self, start: usize)
         ensures { (l : Log) → records self.old l → records self.new (branch_begun start l) };
@@ -81,8 +77,8 @@ pub(crate) trait Spanning: Drop {
     fn end_choice(&mut self, end: usize) -> Result<(), AllocError>
         ensures { (l : Log) → records self.old l → OnOk result (records self.new (choice_ended end l)) };
 
-    /// The open part with this tree ends. Its closing parenthesis begins at the reach, and `rest` follows it. The atom
-    /// becomes the last piece unless a body follows the part.
+    /// The open part, whose contents are the tree, ends. Its closing parenthesis begins at the reach, and `rest`
+    /// follows it. After a condition the body begins there; otherwise the atom ends too, and becomes the last piece.
     fn end_part(
         &mut self,
         part: &OpenPart,
@@ -144,9 +140,6 @@ impl Spanning for NoSpans {
     fn wrap(&mut self, _end: usize, _atomic: bool) -> Result<(), AllocError> {
         Ok(())
     }
-
-    #[inline(always)]
-    fn begin_body(&mut self, _rest: &str) {}
 
     #[inline(always)]
     fn next_branch(&mut self, _start: usize) {}

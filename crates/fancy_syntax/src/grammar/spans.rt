@@ -1,18 +1,14 @@
 //! The spans of the nodes of a raw tree, each tree in preorder, and what no node has.
-ghost use Rattle.std.specs.Prelude.{◌≡◌, ◌+◌, true, false, [], ◌∷◌, chars, map, IfOk, OnOk};
+ghost use Rattle.std.specs.Prelude.{◌≡◌, chars, IfOk, OnOk};
 ghost use Rattle.fancy_grammar.specs.State.{done};
 ghost use Rattle.fancy_syntax.specs.Log as spec;
-ghost use Rattle.fancy_syntax.specs.Log.{layout_passed};
 ghost use Rattle.fancy_syntax.specs.LogViews.{log_of};
 ghost use Rattle.fancy_syntax.specs.Parsed.{group_kind, state};
 ghost use Rattle.fancy_syntax.specs.Recording.{body_separated, token_read, conditional_recorded, group_recorded};
-ghost use Rattle.fancy_syntax.specs.TriviaViews.{recorded_part};
 ghost use Rattle.fancy_syntax.specs.View.{view};
-ghost use Rattle.fancy_grammar.specs.Trivia.{closing, dropped, inner_at, of_comment, of_inner, opening_of, part};
 ghost use Rattle.fancy_lex.specs.Text.{reach_of};
-ghost use Rattle.fancy_lex.specs.TokenComments.{class_comments, escape_comments, token_comments};
-ghost use Rattle.fancy_lex.specs.CommentViews.{comment_of};
 
+mod passed;
 mod returned;
 
 use crate::expr::Expr;
@@ -21,18 +17,15 @@ use crate::grammar::conditional::has_empty_branches;
 use crate::grammar::frame::OpenPart;
 use crate::grammar::group::kind::GroupKind;
 use crate::grammar::recorded::{
-    ConditionPart, FirstBar, LastPiece, Open, Recorded, RecordedTrivium, part_between,
+    ConditionPart, FirstBar, LastPiece, Open, Recorded, RecordedTrivium,
 };
 use crate::grammar::spanning::Spanning;
+use crate::grammar::spans::passed::{closing_before, dropped, part_between};
 use crate::grammar::state::State;
 use crate::grammar::trees::is_empty;
 use crate::trivium::TriviumKind;
-use fancy_lex::class::next_escape;
 use fancy_lex::counts::Counts;
-use fancy_lex::escape::after_layout_letter;
-use fancy_lex::flags::Flags;
-use fancy_lex::layout::{LayoutComment, first_comment, first_in_token, has_hash};
-use fancy_lex::text::{Reach, next, reach, reach_before};
+use fancy_lex::text::{Reach, reach, reach_before};
 use std::alloc::{AllocError, Global};
 
 /// The nodes that have been read, the open atoms, and what was passed that no node has.
@@ -51,9 +44,6 @@ pub(crate) struct Spans {
 /// The initial capacity of the list of nodes: more than most patterns have. A block of more than 1,024 bytes costs more, as
 /// for the parser's list of trees.
 const NODES: usize = 42;
-
-/// The first capacity of the list of what no node has: more than most patterns have.
-const PARTS: usize = 16;
 
 impl Spans {
     /// The spans before anything is read of a text that begins at the reach.
@@ -79,72 +69,6 @@ impl Spans {
         })
     }
 
-    /// Records the comments in the layout at the front.
-    #[inline(never)]
-    fn pass_comments(&mut self, current: State) -> Result<(), AllocError>
-        ensures { OnOk result (log_of self.new ≡ layout_passed (state current.entry) (log_of self.old)) }
-    {
-        let mut rest = current.rest;
-        while let Some(comment) = first_comment(rest, current.flags.ignore_space) {
-            self.passed.push(trivium_of_comment(comment))?;
-            rest = comment.rest;
-        }
-        Ok(())
-    }
-
-    /// Records the comments in the token at the front of `text` that ends at the reach.
-    #[inline(never)]
-    fn pass_token(&mut self, text: &str, end: Reach) -> Result<(), AllocError>
-        ensures { OnOk result (log_of self.new ≡
-            spec.pass (map of_inner (token_comments (chars text.now) end)) (log_of self.old)) }
-    {
-        // Usually there is no `#`, and so no comment.
-        if !has_hash(text, end) {
-            return Ok(());
-        }
-        let mut rest = text;
-        while let Some(comment) = first_in_token(rest, end) {
-            self.passed.push(inner_trivium(comment))?;
-            rest = comment.rest;
-        }
-        Ok(())
-    }
-
-    /// Records the comments in an escape that ends at the reach. `text` is what follows its backslash.
-    fn pass_escape(&mut self, text: &str, end: Reach) -> Result<(), AllocError>
-        ensures { OnOk result (log_of self.new ≡
-            spec.pass (map of_inner (escape_comments (chars text.now) end)) (log_of self.old)) }
-    {
-        match after_layout_letter(text) {
-            Some(rest) => self.pass_token(rest, end),
-            None => Ok(()),
-        }
-    }
-
-    /// Records the comments in a class that ends at the reach. `text` is what follows its bracket.
-    #[inline(never)]
-    fn pass_class(
-        &mut self,
-        alloc: Global,
-        text: &str,
-        end: Reach,
-        flags: Flags,
-    ) -> Result<(), AllocError>
-        ensures { OnOk result (log_of self.new ≡
-            spec.pass (map of_inner (class_comments flags (chars text.now) end)) (log_of self.old)) }
-    {
-        // Usually there is no `#`, and so no comment.
-        if !has_hash(text, end) {
-            return Ok(());
-        }
-        let mut rest = text;
-        while let Some((inside, after)) = next_escape(alloc, rest, end, flags) {
-            self.pass_escape(inside, reach(after))?;
-            rest = after;
-        }
-        Ok(())
-    }
-
     /// Inserts a node after that much of what is recorded.
     fn put(&mut self, height: usize, node: Recorded) -> Result<(), AllocError>
         ensures { OnOk result (log_of self.new ≡ spec.put height node (log_of self.old)) }
@@ -166,62 +90,9 @@ impl Spans {
         self.put(height, node)
     }
 
-    /// Records a part of the pattern that no node has, or may have.
-    fn pass(&mut self, part: RecordedTrivium) -> Result<(), AllocError>
-        ensures { OnOk result (log_of self.new ≡ spec.pass (recorded_part part ∷ []) (log_of self.old)) }
-    {
-        if self.passed.is_empty() {
-            self.passed.reserve(PARTS)?;
-        }
-        Ok(self.passed.push(part)?)
-    }
-
-    /// Records the comments in the token that begins the atom at `start`, and that ends at the reach.
-    fn pass_start(&mut self, alloc: Global, start: State, end: Reach) -> Result<(), AllocError>
-        ensures { OnOk result (log_of self.new ≡ spec.pass (inner_at (state start.entry) end) (log_of self.old)) }
-    {
-        let Some((c, rest)) = next(start.rest) else {
-            return Ok(());
-        };
-        match c {
-            '(' => self.pass_token(rest, end),
-            '\\' => self.pass_escape(rest, end),
-            '[' => self.pass_class(alloc, rest, end, start.flags),
-            _ => Ok(()),
-        }
-    }
-
-    /// Records the opening of a group of this kind if it has no node, or may have none.
-    #[inline(always)]
-    fn pass_opening(
-        &mut self,
-        kind: GroupKind,
-        start: State,
-        inside: State,
-    ) -> Result<(), AllocError>
-        ensures { OnOk result (log_of self.new ≡
-            spec.pass (opening_of (group_kind kind.entry) (state start.entry) (state inside.entry)) (log_of self.old)) }
-    {
-        let opening = TriviumKind::Opening {
-            around: start.flags,
-            inside: inside.flags,
-        };
-        match kind {
-            GroupKind::FlagGroup => self.pass(part_between(start, inside, opening, false)),
-            GroupKind::Capture(None) | GroupKind::Undecided => {
-                self.pass(part_between(start, inside, opening, true))
-            }
-            GroupKind::Capture(Some(_))
-            | GroupKind::Look(_)
-            | GroupKind::Atomic
-            | GroupKind::Define
-            | GroupKind::Repeater => Ok(()),
-        }
-    }
-
-    /// An atom begins at the first reach, and its first part at the second.
+    /// Opens an atom that begins at the first reach, and its first part, which begins at the second.
     fn open_atom(&mut self, start: usize, inside: usize) -> Result<(), AllocError>
-        ensures { OnOk result (log_of self.new ≡ spec.opened start inside (log_of self.old)) }
+        ensures { OnOk result (log_of self.new ≡ spec.atom_opened start inside (log_of self.old)) }
     {
         self.around.reserve(1)?;
         self.around.push_reserved(self.open);
@@ -244,38 +115,16 @@ impl Spans {
         self.open.pieces = height;
     }
 
-    /// Adds all text between the reaches: these parts, and what is before, between and after them.
-    fn fill(
-        &mut self,
-        start: usize,
-        end: usize,
-        parts: &[RecordedTrivium],
-    ) -> Result<(), AllocError>
-        ensures { OnOk result (log_of self.new ≡ spec.text_filled start end (map recorded_part parts.now) (log_of self.old)) }
+    /// The open part is a condition, which has ended. The body begins at `rest`.
+    fn begin_body(&mut self, rest: &str)
+        ensures { log_of self.new ≡ spec.body_begun (reach_of (chars rest.now)) (log_of self.old) }
     {
-        let mut from = start;
-        for part in parts {
-            // A part that begins before the end of the last one lies in it.
-            if part.start > from {
-                self.pass(*part)?;
-                continue;
-            }
-            self.drop_text(from, part.start)?;
-            self.pass(*part)?;
-            from = part.end;
-        }
-        self.drop_text(from, end)
-    }
-
-    /// Inserts the text between the reaches, unless it is empty, after that many parts.
-    fn insert_dropped(&mut self, height: usize, start: usize, end: usize) -> Result<(), AllocError>
-        ensures { OnOk result (log_of self.new ≡ spec.text_inserted height start end (log_of self.old)) }
-    {
-        if start == end {
-            return Ok(());
-        }
-        let height = height.min(self.passed.len());
-        Ok(self.passed.insert(height, dropped(start, end))?)
+        self.open.condition = Some(ConditionPart {
+            start: self.open.part,
+            closing: reach_before(rest),
+            passed: self.passed.len(),
+        });
+        self.begin(reach(rest));
     }
 
     /// Replaces the Alt of that many branches, the body of a conditional, by the first branch and the choice among the
@@ -301,7 +150,8 @@ impl Spans {
         self.put(at.saturating_add(bar.before), Recorded::Node { start, end })
     }
 
-    /// Records a leaf, or inline flags, whose tree is an Empty.
+    /// Records an atom that was read at once, but not the comments in it: a leaf, or inline flags, whose tree is an
+    /// Empty.
     #[inline(always)]
     fn record_token(&mut self, start: State, atom: &Expr, end: State) -> Result<(), AllocError>
         ensures { OnOk result (log_of self.new ≡
@@ -318,17 +168,8 @@ impl Spans {
         Ok(())
     }
 
-    /// Opens any other atom that holds branches. Its first part begins at the reach.
-    #[inline(always)]
-    fn open(&mut self, alloc: Global, start: State, inside: Reach) -> Result<(), AllocError>
-        ensures { OnOk result (log_of self.new ≡ spec.pass (inner_at (state start.entry) inside)
-            (spec.opened (reach_of (chars start.entry.rest.now)) inside (log_of self.old))) }
-    {
-        self.open_atom(reach(start.rest), inside)?;
-        self.pass_start(alloc, start, inside)
-    }
-
-    /// Ends a group of one alternation, which `rest` follows. A flag group has no node.
+    /// Ends a group of this kind, which `rest` follows. Its closing parenthesis is recorded if the group has no node,
+    /// or may have none.
     #[inline(always)]
     fn close_group(&mut self, kind: GroupKind, rest: &str) -> Result<(), AllocError>
         ensures { OnOk result (log_of self.new ≡
@@ -353,11 +194,12 @@ impl Spans {
         }
     }
 
-    /// Ends a conditional with this body, whose closing parenthesis begins at the first reach and ends at the second.
+    /// Ends a conditional with this body. If both branches are Empty, only its condition has nodes. Its closing
+    /// parenthesis begins at the first reach, and ends at the second.
     fn close_conditional(&mut self, body: &Expr, paren: Reach, end: Reach) -> Result<(), AllocError>
         ensures { OnOk result (log_of self.new ≡ conditional_recorded (view body.now) paren end (log_of self.old)) }
     {
-        self.end_body(body, paren)?;
+        self.separate_branches(body, paren)?;
         if !has_empty_branches(body) {
             return self.close(end, false);
         }
@@ -368,16 +210,17 @@ impl Spans {
 
     /// Separates the branches of a conditional's body, which ends there. If it is an Alt, its node is replaced by its first
     /// branch and the choice among the others; otherwise an Empty at its end is the second branch.
-    fn end_body(&mut self, body: &Expr, end: usize) -> Result<(), AllocError>
+    fn separate_branches(&mut self, body: &Expr, end: usize) -> Result<(), AllocError>
         ensures { OnOk result (log_of self.new ≡ body_separated (view body.now) end (log_of self.old)) }
     {
-        match body {
-            Expr::Alt(branches) => self.split(branches.len()),
-            _ => Ok(self.recorded.push(Recorded::Node { start: end, end })?),
+        if let Expr::Alt(branches) = body {
+            return self.split(branches.len());
         }
+        Ok(self.recorded.push(Recorded::Node { start: end, end })?)
     }
 
-    /// Leaves out all but the condition of the open conditional, which ends there.
+    /// Leaves out the nodes of the open conditional's body, and records as dropped the text before and after its
+    /// condition. The conditional ends there.
     fn drop_conditional(&mut self, end: usize) -> Result<(), AllocError>
         ensures { OnOk result (log_of self.new ≡ spec.conditional_dropped end (log_of self.old)) }
     {
@@ -392,7 +235,7 @@ impl Spans {
         self.fill(condition.closing, end, &body)
     }
 
-    /// Ends the open atom there, with a node of its own. An unnamed group may have no number.
+    /// Ends the open atom there, with a node of its own; if it is unnamed, that of a capturing group without a name.
     fn close(&mut self, end: usize, unnamed: bool) -> Result<(), AllocError>
         ensures { OnOk result (log_of self.new ≡ spec.atom_closed end unnamed (log_of self.old)) }
     {
@@ -464,8 +307,8 @@ impl Spanning for Spans {
     ) -> Result<(), AllocError> {
         match atom {
             AtomStart::Nothing => self.record_leaf(reach(start.rest), reach(start.rest)),
-            AtomStart::Read(atom) => {
-                self.record_token(start, atom, end)?;
+            AtomStart::Read(tree) => {
+                self.record_token(start, tree, end)?;
                 self.pass_start(alloc, start, reach(end.rest))
             }
             AtomStart::Group(kind) => {
@@ -474,14 +317,13 @@ impl Spanning for Spans {
                 self.pass_start(alloc, start, reach(end.rest))
             }
             AtomStart::Condition | AtomStart::AbsentBranch => {
-                self.open(alloc, start, reach(end.rest))
+                self.open_atom(reach(start.rest), reach(end.rest))?;
+                self.pass_start(alloc, start, reach(end.rest))
             }
-            AtomStart::Body {
-                start: condition,
-                ..
-            } => {
-                self.open(alloc, start, *condition)?;
-                self.record_leaf(*condition, reach_before(end.rest))?;
+            AtomStart::Body { start: inside, .. } => {
+                self.open_atom(reach(start.rest), *inside)?;
+                self.pass_start(alloc, start, *inside)?;
+                self.record_leaf(*inside, reach_before(end.rest))?;
                 self.begin_body(end.rest);
                 Ok(())
             }
@@ -504,15 +346,6 @@ impl Spanning for Spans {
         self.recorded[height] = Recorded::Node { start, end };
         self.recorded.push_reserved(leaf);
         Ok(())
-    }
-
-    fn begin_body(&mut self, rest: &str) {
-        self.open.condition = Some(ConditionPart {
-            start: self.open.part,
-            closing: reach_before(rest),
-            passed: self.passed.len(),
-        });
-        self.begin(reach(rest));
     }
 
     fn next_branch(&mut self, start: usize) {
@@ -552,7 +385,11 @@ impl Spanning for Spans {
         rest: &str,
     ) -> Result<(), AllocError> {
         match part {
-            OpenPart::Top | OpenPart::Condition => Ok(()),
+            OpenPart::Top => Ok(()),
+            OpenPart::Condition => {
+                self.begin_body(rest);
+                Ok(())
+            }
             OpenPart::Group { kind, .. } => self.close_group(*kind, rest),
             OpenPart::Body { .. } => self.close_conditional(tree, paren, reach(rest)),
             OpenPart::First => {
@@ -564,61 +401,5 @@ impl Spanning for Spans {
             }
             OpenPart::Second(_) => self.close(reach(rest), false),
         }
-    }
-}
-
-/// The closing parenthesis that `rest` follows.
-fn closing_before(rest: &str, unnamed: bool) -> RecordedTrivium
-    ensures { let end = reach_of (chars rest.now) in
-        recorded_part result ≡ part (end + 1) end closing unnamed }
-{
-    RecordedTrivium {
-        start: reach_before(rest),
-        end: reach(rest),
-        kind: TriviumKind::Closing,
-        unnamed,
-    }
-}
-
-/// A part that leaves nothing in the tree.
-fn dropped(start: usize, end: usize) -> RecordedTrivium
-    ensures { recorded_part result ≡ part start end dropped false }
-{
-    RecordedTrivium {
-        start,
-        end,
-        kind: TriviumKind::Dropped,
-        unnamed: false,
-    }
-}
-
-/// A comment, as it is recorded.
-fn trivium_of_comment(comment: LayoutComment<'_>) -> RecordedTrivium
-    ensures { recorded_part result ≡ of_comment (comment_of comment.entry) }
-{
-    let kind = if comment.is_line {
-        TriviumKind::LineComment
-    } else {
-        TriviumKind::Comment
-    };
-    RecordedTrivium {
-        start: reach(comment.start),
-        end: reach(comment.rest),
-        kind,
-        unnamed: false,
-    }
-}
-
-/// A comment in a token, as it is recorded.
-fn inner_trivium(comment: LayoutComment<'_>) -> RecordedTrivium
-    ensures { recorded_part result ≡ of_inner (comment_of comment.entry) }
-{
-    RecordedTrivium {
-        kind: if comment.is_line {
-            TriviumKind::InnerLineComment
-        } else {
-            TriviumKind::InnerComment
-        },
-        ..trivium_of_comment(comment)
     }
 }

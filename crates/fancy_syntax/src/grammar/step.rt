@@ -67,9 +67,9 @@ pub(crate) fn read_step<'a, S: Spanning>(
             end_piece(alloc, trees, current, left, depth, spans)?;
             Ok(None)
         }
-        AtomStart::Read(atom) => {
-            found.record(&atom);
-            push(trees, atom)?;
+        AtomStart::Read(tree) => {
+            found.record(&tree);
+            push(trees, tree)?;
             end_piece(alloc, trees, current, left, depth, spans)?;
             Ok(None)
         }
@@ -198,7 +198,6 @@ pub(crate) fn close<'a, S: Spanning>(
         return Ok(None);
     }
     let condition = Box::new(alloc, trees.take_last())?;
-    spans.begin_body(current.rest);
     let left = byte_len(current.rest);
     Ok(Some(OpenPart::Body { condition, left }))
 }

@@ -133,9 +133,9 @@ returns-clause-value g c =
         refl,
       ),
       (
-        λ h. c.begin_body.ensures _ (subst (g.S.Spanning.records c.end_part.new.spans)
+        λ h. subst (g.S.Spanning.records c.end_part.new.spans)
             ((λ k. part_recorded (part_of o) (here k) (reach_of s.rest) (reach_of t.rest) n)
-            ∙ part_decided d o p inner _ _ n is_p) (c.in_ok-end_part.ensures.spans n h)),
+            ∙ part_decided d o p inner _ _ n is_p) (c.in_ok-end_part.ensures.spans n h),
         ended_items p inner s ended,
       ),
     )

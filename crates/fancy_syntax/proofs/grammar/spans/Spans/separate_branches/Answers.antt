@@ -7,7 +7,7 @@ use Rattle.fancy_syntax.specs.Recording.{body_separated}
 use Rattle.fancy_syntax.specs.View.{view, views}
 use Rattle.fancy_syntax.proofs.TreeLemmas.{view_Alt}
 use Rattle.fancy_syntax.proofs.TreesLemmas.{views_length}
-use Rattle.fancy_syntax.proofs.grammar.spans.Spans.end_body.Goals as goal
+use Rattle.fancy_syntax.proofs.grammar.spans.Spans.separate_branches.Goals as goal
 
 pub returns-in-Alt : goal.returns-in-Alt
 returns-in-Alt c =
