@@ -132,7 +132,20 @@ struct TokenWalk<'d> {
 }
 
 impl TokenWalk<'_> {
-    /// Writes a token, if it is in one line.
+    /// Writes a token, in each of its lines by itself.
+    fn write_lines(&mut self, located: Located<'_, '_>, token: Token) -> Result<(), AllocError> {
+        let Token { span, kind } = token;
+        let mut start = span.start;
+        for line in span.text(located.entry.pattern).unwrap_or("").split('\n') {
+            let end = start.saturating_add(line.len());
+            let span = Span { start, end };
+            self.write(located, Token { span, kind })?;
+            start = end.saturating_add(1);
+        }
+        Ok(())
+    }
+
+    /// Writes a token, if it is in one line, and not empty.
     fn write(&mut self, located: Located<'_, '_>, token: Token) -> Result<(), AllocError> {
         let (start, end) = located.positions(token.span);
         if start.line != end.line || end.character <= start.character {
@@ -162,7 +175,7 @@ impl Visitor for TokenWalk<'_> {
         let mut end = 0usize;
         for token in &tokens_of(self.alloc, entry.pattern, &parsed)? {
             if token.span.start >= end {
-                self.write(located, *token)?;
+                self.write_lines(located, *token)?;
                 end = token.span.end;
             }
         }
