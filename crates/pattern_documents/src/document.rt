@@ -1,4 +1,8 @@
 //! Documents that are open.
+ghost use Rattle.std.specs.Prelude.{◌≡◌, chars, string_bytes, Some, None, IfOk, OnOk, OnErr, IsErrOf};
+ghost use Rattle.editor_documents.specs.Change.{with_changes};
+ghost use Rattle.editor_documents.specs.declared.change.ChangeError.{ChangeError};
+
 use crate::known::KnownPatterns;
 use crate::uri::path_of;
 use editor_documents::change::{Change, ChangeError};
@@ -177,7 +181,9 @@ impl OpenDocument {
         text: String,
         system: &S,
         err: &mut Vec<u8>,
-    ) -> Result<OpenDocument, RunError> {
+    ) -> Result<OpenDocument, RunError>
+        ensures text { IfOk result (λ d. d.source.document.text ≡ text) }
+    {
         let alloc = given.alloc;
         let name = match path_of(alloc, opened.uri)? {
             Some(path) => path,
@@ -208,7 +214,14 @@ impl OpenDocument {
         given: Settings<'_>,
         version: i64,
         changes: &[Change<'_>],
-    ) -> Result<(), ChangeError> {
+    ) -> Result<(), ChangeError>
+        ensures ok { OnOk result (with_changes given.entry.encoding
+            (chars (string_bytes self.old.source.document.text)) changes.now
+            ≡ Some (chars (string_bytes self.new.source.document.text))) }
+        ensures position { IsErrOf result ChangeError.Position → with_changes given.entry.encoding
+            (chars (string_bytes self.old.source.document.text)) changes.now ≡ None }
+        ensures err { OnErr result (self.new.source.document ≡ self.old.source.document) }
+    {
         let Settings {
             alloc,
             encoding,
@@ -223,7 +236,9 @@ impl OpenDocument {
     }
 
     /// Makes the text, which leads to this version, the one of the document.
-    pub fn replace(&mut self, version: i64, text: String) {
+    pub fn replace(&mut self, version: i64, text: String)
+        ensures text { self.new.source.document.text ≡ text }
+    {
         let before = self.source.document.replace(version, text);
         self.known.change(before);
     }
