@@ -49,6 +49,29 @@ fn is_needless(rule: Rule) -> bool {
     }
 }
 
+/// What reports on a document name.
+#[derive(Clone, Copy)]
+pub struct Addresses<'a> {
+    /// The URI of the document.
+    pub document: &'a str,
+    /// The address of the page on rules, if the client has given it.
+    pub rule_page: Option<&'a str>,
+}
+
+/// Writes the link to what the page says of the rule.
+fn write_link(
+    alloc: Global,
+    writer: &mut Writer,
+    page: &str,
+    rule: Rule,
+) -> Result<(), AllocError> {
+    let address = format!(in alloc; "{page}#{}", rule.name())?;
+    writer.key("codeDescription")?;
+    writer.begin_object()?;
+    write_text(writer, "href", address.as_str())?;
+    writer.end_object()
+}
+
 /// Writes the part that a message names.
 fn write_related(
     writer: &mut Writer,
@@ -86,7 +109,7 @@ fn write_message(alloc: Global, writer: &mut Writer, report: &Report) -> Result<
 fn write_report(
     alloc: Global,
     writer: &mut Writer,
-    uri: &str,
+    addresses: Addresses<'_>,
     located: Located<'_, '_>,
     report: &Report,
 ) -> Result<(), AllocError> {
@@ -97,6 +120,9 @@ fn write_report(
     if let Some(code) = report.code {
         write_text(writer, "code", code)?;
     }
+    if let (Some(page), Some(rule)) = (addresses.rule_page, report.rule) {
+        write_link(alloc, writer, page, rule)?;
+    }
     write_text(writer, "source", "patterns")?;
     write_message(alloc, writer, report)?;
     if report.rule.is_some_and(is_needless) {
@@ -106,7 +132,7 @@ fn write_report(
         writer.end_array()?;
     }
     if let Some(related) = &report.related {
-        write_related(writer, uri, located, related)?;
+        write_related(writer, addresses.document, located, related)?;
     }
     writer.end_object()
 }
@@ -131,7 +157,7 @@ fn write_notice(
 #[derive(Drop)]
 struct ReportWalk<'d> {
     alloc: Global,
-    uri: &'d str,
+    addresses: Addresses<'d>,
     locator: Locator<'d>,
     patterns: &'d mut EditedPatterns,
     /// The patterns before the last change, and those that are there now.
@@ -146,7 +172,7 @@ impl ReportWalk<'_> {
     /// Writes the reports on a pattern.
     fn write(&mut self, located: Located<'_, '_>, reports: &[Report]) -> Result<(), AllocError> {
         for report in reports {
-            write_report(self.alloc, self.writer, self.uri, located, report)?;
+            write_report(self.alloc, self.writer, self.addresses, located, report)?;
         }
         self.count = self.count.saturating_add(reports.len());
         Ok(())
@@ -216,7 +242,7 @@ fn end_reports(mut writer: Writer) -> Result<Vec<u8>, AllocError> {
 /// Writes what is reported on the patterns of a document, and returns these. Those before its last change are given.
 fn write_all(
     given: Settings<'_>,
-    uri: &str,
+    addresses: Addresses<'_>,
     source: &DocumentSource,
     patterns: &mut EditedPatterns,
     known: KnownPatterns,
@@ -226,7 +252,7 @@ fn write_all(
     let flags = patterns.flags;
     let mut walk = ReportWalk {
         alloc,
-        uri,
+        addresses,
         locator: Locator::new(given.encoding, source.text()),
         patterns: &mut *patterns,
         old: known,
@@ -241,30 +267,30 @@ fn write_all(
 /// Writes what is reported on the patterns of a document.
 fn write_reports(
     given: Settings<'_>,
-    uri: &str,
+    addresses: Addresses<'_>,
     document: &mut OpenDocument,
     writer: &mut Writer,
 ) -> Result<(), RunError> {
     let known = mem::replace(&mut document.known, KnownPatterns::none(given.alloc));
     let (source, patterns) = (&document.source, &mut document.patterns);
-    document.known = write_all(given, uri, source, patterns, known, writer)?;
+    document.known = write_all(given, addresses, source, patterns, known, writer)?;
     Ok(())
 }
 
 /// The notification of what is reported on a document.
 pub fn diagnostics(
     given: Settings<'_>,
-    uri: &str,
+    addresses: Addresses<'_>,
     document: &mut OpenDocument,
 ) -> Result<Vec<u8>, RunError> {
     let version = document.source.document.version;
-    let mut writer = begin_reports(given.alloc, uri, Some(version))?;
+    let mut writer = begin_reports(given.alloc, addresses.document, Some(version))?;
     if document.source.text().len() > MAX_BYTES {
         document.known = KnownPatterns::none(given.alloc);
         let start = Cursor::start(given.encoding, "").position();
         write_notice(&mut writer, start, Severity::Notice, TOO_LARGE)?;
     } else {
-        write_reports(given, uri, document, &mut writer)?;
+        write_reports(given, addresses, document, &mut writer)?;
     }
     Ok(end_reports(writer)?)
 }

@@ -4,7 +4,7 @@ ghost use Rattle.patterns_server.specs.Stage.{status_at};
 ghost use Rattle.patterns_server.specs.declared.session.Flow.TheVariants.{End};
 
 use crate::asked::{About, Refused, WRONG_PARAMS, asked, offsets};
-use crate::capabilities::{ClientSupport, write_capabilities};
+use crate::capabilities::{ClientSupport, rule_page, write_capabilities};
 use crate::folding::write_folds;
 use crate::method::Method;
 use crate::outline::write_symbols;
@@ -21,7 +21,7 @@ use json_rpc::long_text::{PLACEHOLDER, Shortened, unescaped, without_long_text};
 use json_rpc::message::{Id, Message};
 use json_rpc::reply::{begin_answer, begin_notification, finish, refusal};
 use pattern_documents::actions::write_actions;
-use pattern_documents::diagnostics::{diagnostics, no_diagnostics};
+use pattern_documents::diagnostics::{Addresses, diagnostics, no_diagnostics};
 use pattern_documents::document::{OpenDocument, Opened, Settings};
 use pattern_documents::formatting::write_formatted;
 use pattern_files::sources::System;
@@ -79,6 +79,8 @@ pub(crate) struct Session<'a, S, W> {
     stage: Stage,
     /// Whether the client takes symbols that are in others.
     has_nested_symbols: bool,
+    /// The address of the page on rules; empty if the client has not given it.
+    rule_page: String,
     documents: BTreeMap<String, OpenDocument>,
 }
 
@@ -100,6 +102,7 @@ impl<'a, S: System, W: Write> Session<'a, S, W> {
             out,
             stage: Stage::New,
             has_nested_symbols: false,
+            rule_page: String::new(alloc),
             documents: BTreeMap::new(alloc),
         }
     }
@@ -249,10 +252,12 @@ impl<'a, S: System, W: Write> Session<'a, S, W> {
 
     /// Agrees with the client on what both can do.
     fn initialize(&mut self, id: Id<'_>, params: Option<&Value<'_>>) -> Result<(), RunError> {
+        let alloc = self.given.alloc;
         let client = ClientSupport::of(params);
-        let mut writer = begin_answer(self.given.alloc, id)?;
+        let mut writer = begin_answer(alloc, id)?;
         write_capabilities(&mut writer, client)?;
         let message = finish(writer)?;
+        self.rule_page = String::from_str(alloc, rule_page(params).unwrap_or(""))?;
         self.given.encoding = client.encoding;
         self.has_nested_symbols = client.has_nested_symbols;
         self.stage = Stage::Running;
@@ -344,7 +349,12 @@ impl<'a, S: System, W: Write> Session<'a, S, W> {
         let Some(document) = self.documents.get_mut(uri) else {
             return Ok(());
         };
-        let message = diagnostics(given, uri, document)?;
+        let page = self.rule_page.as_str();
+        let addresses = Addresses {
+            document: uri,
+            rule_page: (!page.is_empty()).then_some(page),
+        };
+        let message = diagnostics(given, addresses, document)?;
         self.send(&message)
     }
 
