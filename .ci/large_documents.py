@@ -1,8 +1,9 @@
 """Large documents in `patterns server`, for `.ci/runs`; by itself `.ci/large_documents.py PROGRAM`.
 
-A document of 50 MB is opened and changed: beside what the program takes by itself, at most twice its size and 4 MiB are in memory, it has the
-text that it should have, and a change at a wrong position leaves it as it is. In a document of 10,000 patterns a keystroke takes less than
-20 ms of a processor. A program that is built without proof is slow, and gets smaller documents.
+A document of 50 MB is opened and changed, and all is asked about it: beside what the program takes by itself, at most twice its size and 4 MiB
+are in memory. It is too large for its patterns to be read; then most of it is removed, and the symbols have to be those of what is left. In a
+document of 10,000 patterns a keystroke takes less than 20 ms of a processor. A pattern of 1 MB is passed over, and others are not. A program
+that is built without proof is slow, and gets smaller documents.
 """
 import os
 import sys
@@ -13,11 +14,10 @@ from pathlib import Path
 from typing import Callable, Iterator
 
 from programs import TRIED, Check, Output, path_of
-from random_messages import Client
+from random_messages import REQUESTS, Client, diagnostics, symbols
 
-# How many bytes, and how many patterns; if the program is built without proof, the second numbers. Texts of more than 8 MiB are not searched for
-# mistakes.
-SIZES, COUNTS = (50_000_000, 10_000_000), (10_000, 500)
+# How many bytes, and how many patterns; if the program is built without proof, the second numbers.
+SIZES, COUNTS, LENGTHS = (50_000_000, 10_000_000), (10_000, 500), (1_000_000, 300_000)
 KEYSTROKES = 50
 URI = "untitled:a"
 
@@ -46,34 +46,45 @@ def open_document(client: Client, text: str) -> None:
     client.reports()
 
 
-def type_at(client: Client, version: int, line: int) -> list:
-    """Types a letter at the start of a line; the notifications that come."""
-    position = {"line": line, "character": 0}
-    change = {"range": {"start": position, "end": position}, "text": "a"}
-    client.send(method="textDocument/didChange", params={"textDocument": {"uri": URI, "version": version}, "contentChanges": [change]})
+def change(client: Client, version: int, start: int, end: int, text: str) -> list:
+    """Replaces lines by a text; the notifications that come."""
+    ends = {"start": {"line": start, "character": 0}, "end": {"line": end, "character": 0}}
+    params = {"textDocument": {"uri": URI, "version": version}, "contentChanges": [{"range": ends, "text": text}]}
+    client.send(method="textDocument/didChange", params=params)
     return client.reports()
 
 
-def hovered(client: Client, line: int) -> str:
-    """What is at the start of a line, in words."""
-    position = {"line": line, "character": 0}
-    answer = client.ask("textDocument/hover", {"textDocument": {"uri": URI}, "position": position})[0]
-    return answer["result"]["contents"]["value"].partition("\n")[0]
+def asked(client: Client) -> list:
+    """The results of all requests about the start of the document."""
+    position = {"line": 0, "character": 0}
+    params = {"textDocument": {"uri": URI}, "position": position, "range": {"start": position, "end": position}, "positions": [position],
+              "newName": "m", "context": {}}
+    return [client.ask(f"textDocument/{it}", params)[0]["result"] for it in REQUESTS if it != "unknown"]
 
 
 def memory(client: Client, size: int) -> None:
-    """Opens a document of so many bytes, and changes it."""
+    """Opens a document of so many bytes, changes it, and asks for all."""
     base = peak(client)
     some = "".join(islice(numbered("word%\n"), 100_000))
     text = some * (size // len(some) + 1)
+    last = text.count("\n")
     open_document(client, text)
-    type_at(client, 2, 0)
-    last = text.count("\n") - 1
-    wrong = type_at(client, 3, last + 3)
+    change(client, 2, 0, 0, "a")
+    wrong = change(client, 3, last + 2, last + 2, "a")
     assert [it["method"] for it in wrong] == ["window/showMessage"], wrong
-    assert (hovered(client, 0), hovered(client, last)) == ('literal "a"', 'literal "w"')
+    assert set(asked(client)) == {None}
     taken = peak(client) - base
     assert taken <= 2 * len(text) + (4 << 20), (taken, len(text))
+    assert diagnostics(change(client, 4, 3, last, ""), URI) == []
+    assert [name for name, _ in symbols(client, URI)] == ["aword0", "word1", "word2"]
+
+
+def long_pattern(client: Client, length: int) -> None:
+    """Opens a document with a pattern of so many bytes."""
+    open_document(client, "[a]b\n" + "a" * length + "\n")
+    found = [(it["range"]["start"]["line"], it["severity"]) for it in diagnostics(change(client, 2, 0, 0, ""), URI)]
+    assert found == [(0, 2), (0, 3)], found
+    assert [name for name, _ in symbols(client, URI)] == ["[a]b"]
 
 
 def keystrokes(client: Client, total: int) -> None:
@@ -81,7 +92,8 @@ def keystrokes(client: Client, total: int) -> None:
     open_document(client, "".join(islice(numbered("^(\\d{4})-(\\d{2})T%$\n"), total)))
     before = processor_time(client)
     for number in range(KEYSTROKES):
-        type_at(client, 2 + number, number * total // KEYSTROKES)
+        line = number * total // KEYSTROKES
+        change(client, 2 + number, line, line, "a")
     taken = (processor_time(client) - before) / KEYSTROKES
     assert taken < 0.02, taken
 
@@ -104,11 +116,11 @@ def parts() -> dict:
     def run(play: Callable[[Client, int], None], numbers: tuple) -> Output:
         return Output(played(path_of("patterns"), play, numbers[bool(TRIED)]), "", 0)
 
-    plays = (("memory", memory, SIZES), ("keystrokes", keystrokes, COUNTS))
+    plays = (("memory", memory, SIZES), ("keystrokes", keystrokes, COUNTS), ("long pattern", long_pattern, LENGTHS))
     checks = [Check(f"large documents, {name}", partial(run, play, numbers), "played\n", lambda got: got.out) for name, play, numbers in plays]
     return {"large documents": checks}
 
 
 if __name__ == "__main__":
-    for each, total in ((memory, SIZES[0]), (keystrokes, COUNTS[0])):
+    for each, total in ((memory, SIZES[0]), (keystrokes, COUNTS[0]), (long_pattern, LENGTHS[0])):
         played(Path(sys.argv[1]), each, total)

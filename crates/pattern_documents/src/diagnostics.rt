@@ -21,11 +21,11 @@ use std::mem;
 /// How many reports on a document are sent, and those of one pattern more: editors show no more.
 const MAX_REPORTS: usize = 1000;
 
-/// How many bytes a document has at most whose patterns are reported on.
-const MAX_BYTES: usize = 8 << 20;
+/// That the patterns of a document are not read.
+const TOO_LARGE: &str = "patterns of documents of more than 8 MiB are not read";
 
-/// That a document is not reported on.
-const TOO_LARGE: &str = "documents of more than 8 MiB are not searched for mistakes";
+/// That a pattern of a document is not read.
+const TOO_LONG: &str = "patterns of more than 256 KiB are not read";
 
 /// The number that the protocol has for how bad it is what is reported.
 fn severity_number(severity: Severity) -> u64 {
@@ -153,6 +153,16 @@ fn write_notice(
     writer.end_object()
 }
 
+/// Writes a notice at the start of a document.
+fn write_notice_at_start(
+    given: Settings<'_>,
+    writer: &mut Writer,
+    message: &str,
+) -> Result<(), AllocError> {
+    let start = Cursor::start(given.encoding, "").position();
+    write_notice(writer, start, Severity::Notice, message)
+}
+
 /// Writes what is reported on the patterns of a document, one after another.
 #[derive(Drop)]
 struct ReportWalk<'d> {
@@ -260,7 +270,9 @@ fn write_all(
         count: 0,
         writer: &mut *writer,
     };
-    source.visit(given, flags, &mut walk)?;
+    if source.visit(given, flags, &mut walk)? {
+        write_notice_at_start(given, walk.writer, TOO_LONG)?;
+    }
     Ok(walk.new)
 }
 
@@ -285,10 +297,9 @@ pub fn diagnostics(
 ) -> Result<Vec<u8>, RunError> {
     let version = document.source.document.version;
     let mut writer = begin_reports(given.alloc, addresses.document, Some(version))?;
-    if document.source.text().len() > MAX_BYTES {
+    if document.source.is_large() {
         document.known = KnownPatterns::none(given.alloc);
-        let start = Cursor::start(given.encoding, "").position();
-        write_notice(&mut writer, start, Severity::Notice, TOO_LARGE)?;
+        write_notice_at_start(given, &mut writer, TOO_LARGE)?;
     } else {
         write_reports(given, addresses, document, &mut writer)?;
     }

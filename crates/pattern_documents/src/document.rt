@@ -8,7 +8,7 @@ use crate::uri::path_of;
 use editor_documents::change::{Change, ChangeError};
 use editor_documents::document::Document;
 use editor_documents::position::Encoding;
-use pattern_files::entry::Visitor;
+use pattern_files::entry::{Entry, Unread, Visitor};
 use pattern_files::form::{FileFormat, NamedFormat};
 use pattern_files::lines::Ending;
 use pattern_files::sources::{STANDARD_INPUT, System};
@@ -23,6 +23,12 @@ use patterns_program::edited::EditedPatterns;
 use patterns_text::error::RunError;
 use std::alloc::{AllocError, Global};
 
+/// How many bytes a document has at most whose patterns are read.
+const MAX_BYTES: usize = 8 << 20;
+
+/// How many bytes a document spells a pattern in at most that is read: its tree takes hundreds of times as many.
+const MAX_PATTERN: usize = 1 << 18;
+
 /// What is given for all documents.
 #[derive(Clone, Copy)]
 pub struct Settings<'a> {
@@ -30,6 +36,32 @@ pub struct Settings<'a> {
     pub choices: Choices<'a>,
     /// What positions are counted in.
     pub encoding: Encoding,
+}
+
+/// Visits the patterns that are not too long.
+#[derive(Drop)]
+struct ShortPatterns<'v, V> {
+    visitor: &'v mut V,
+    /// Whether one is too long.
+    has_long: bool,
+}
+
+impl<V: Visitor> Visitor for ShortPatterns<'_, V> {
+    fn pattern(&mut self, entry: Entry<'_>) -> Result<(), RunError> {
+        if entry.contents.len() > MAX_PATTERN {
+            self.has_long = true;
+            return Ok(());
+        }
+        self.visitor.pattern(entry)
+    }
+
+    fn unread(&mut self, unread: Unread<'_>) -> Result<(), RunError> {
+        self.visitor.unread(unread)
+    }
+
+    fn is_done(&self) -> bool {
+        self.visitor.is_done()
+    }
 }
 
 /// A document, and how it has patterns.
@@ -131,15 +163,20 @@ impl DocumentSource {
         ))
     }
 
-    /// Visits its patterns, which are parsed under these flags.
+    /// Whether it is too large for its patterns to be read.
+    pub fn is_large(&self) -> bool {
+        self.text().len() > MAX_BYTES
+    }
+
+    /// Visits its patterns, which are parsed under these flags, and returns whether one is passed over that is too long.
     pub fn visit<V: Visitor>(
         &self,
         given: Settings<'_>,
         flags: u32,
         visitor: &mut V,
-    ) -> Result<(), RunError> {
+    ) -> Result<bool, RunError> {
         let Some(form) = self.form(given)? else {
-            return Ok(());
+            return Ok(false);
         };
         let shape = FileShape {
             form,
@@ -147,7 +184,18 @@ impl DocumentSource {
             has_grammars: true,
         };
         let mut reader = self.text().as_bytes();
-        visit(given.alloc, shape, self.name.as_str(), &mut reader, visitor)
+        let mut short = ShortPatterns {
+            visitor,
+            has_long: false,
+        };
+        visit(
+            given.alloc,
+            shape,
+            self.name.as_str(),
+            &mut reader,
+            &mut short,
+        )?;
+        Ok(short.has_long)
     }
 
     /// How its patterns are formatted.

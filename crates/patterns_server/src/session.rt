@@ -281,7 +281,7 @@ impl<'a, S: System, W: Write> Session<'a, S, W> {
         }
     }
 
-    /// Writes the result of a method.
+    /// Writes the result of a method: null if the document is too large for its patterns to be read.
     fn write_result(
         &mut self,
         method: Method,
@@ -300,12 +300,13 @@ impl<'a, S: System, W: Write> Session<'a, S, W> {
         let Some(document) = self.documents.get_mut(uri) else {
             return Ok(Err(NO_DOCUMENT));
         };
+        if document.source.is_large() {
+            writer.null()?;
+            return Ok(Ok(()));
+        }
         let text = document.source.text();
         if method == Method::SelectionRange {
-            return match offsets(given, text, params)? {
-                Ok(offsets) => write_selections(given, uri, document, &offsets, writer),
-                Err(refused) => Ok(Err(refused)),
-            };
+            return write_selections(given, uri, document, params, writer);
         }
         match asked(given.encoding, text, method, params) {
             Ok(About::Document) if method == Method::Symbols => {
@@ -493,16 +494,20 @@ fn write_of_document(
     }
 }
 
-/// Writes the parts around positions, which are byte offsets, for each a list.
+/// Writes the parts around the positions that a request asks about, for each a list.
 fn write_selections(
     given: Settings<'_>,
     uri: &str,
     document: &OpenDocument,
-    offsets: &[usize],
+    params: Option<&Value<'_>>,
     writer: &mut Writer,
 ) -> Result<Result<(), Refused>, RunError> {
+    let offsets = match offsets(given, document.source.text(), params)? {
+        Ok(offsets) => offsets,
+        Err(refused) => return Ok(Err(refused)),
+    };
     writer.begin_array()?;
-    for offset in offsets {
+    for offset in &offsets {
         let answered = write_answer(given, uri, document, *offset, Query::Selection, writer)?;
         if let Err(refused) = answered {
             return Ok(Err(refused));

@@ -13,6 +13,9 @@ use patterns_text::error::RunError;
 use patterns_text::nodes::nodes_of;
 use std::alloc::{AllocError, Global};
 
+/// How many tokens of a document are sent, and those of one pattern more.
+const MAX_TOKENS: usize = 500_000;
+
 /// The kinds of tokens, as the protocol calls them, in the order of `TokenKind`.
 pub(crate) static TOKEN_KINDS: [&str; 6] = [
     "string", "type", "keyword", "variable", "operator", "comment",
@@ -128,6 +131,8 @@ struct TokenWalk<'d> {
     patterns: &'d EditedPatterns,
     /// Where the last token began.
     last: Position,
+    /// How many tokens are written.
+    count: usize,
     writer: &'d mut Writer,
 }
 
@@ -162,6 +167,7 @@ impl TokenWalk<'_> {
             self.writer.u64(number as u64)?;
         }
         self.last = start;
+        self.count = self.count.saturating_add(1);
         Ok(())
     }
 }
@@ -180,6 +186,10 @@ impl Visitor for TokenWalk<'_> {
             }
         }
         Ok(())
+    }
+
+    fn is_done(&self) -> bool {
+        self.count >= MAX_TOKENS
     }
 }
 
@@ -200,6 +210,7 @@ pub(crate) fn write_tokens(
             line: 0,
             character: 0,
         },
+        count: 0,
         writer,
     };
     document
