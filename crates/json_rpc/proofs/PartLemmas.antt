@@ -1,5 +1,7 @@
 -- Texts that are unescaped part by part, each to the front of the message that has them.
-use Rattle.std.proofs.Common.{◌≡◌, ℕ, ◌+◌, ◌-◌, ◌≤◌, ◌<◌, List, [], ◌∷◌, ◌++◌, ◌⊎◌, inl, inr, take, drop, slice_range, refl, sym, ap, ◌∙◌, subst, arith, take-add, drop-drop}
+use Rattle.std.proofs.Common.{◌≡◌, ℕ, ◌+◌, ◌-◌, ◌≤◌, List, [], ◌++◌, ◌⊎◌, inl, inr, length, take, drop, slice_range, sym, ap, ◌∙◌, subst, arith, take-add, drop-drop, append_assoc, length-append, length-drop, length-take-le}
+use Rattle.std.proofs.Math.Seq.{drop-append_seam}
+use Rattle.json_rpc.proofs.LineLemmas.{taken}
 use Rattle.json_rpc.specs.LongText.{SpellsText, SpellsInParts, no_part, next_part}
 
 -- what two lists have in common from an offset on they have from a later one on
@@ -30,7 +32,7 @@ one_more_part xs old new text i j k n m low high same before part moved =
     subst (SpellsInParts (slice_range xs i k)) (sym moved)
     (subst (λ bytes. SpellsInParts bytes (take n old ++ text))
     (ap (λ l. slice_range xs i j ++ take (k - j) l) same ∙ sym (ranges_join xs i j k low high))
-    (next_part before part))
+    (next_part (slice_range xs i j) (slice_range old j k) (take n old) text before part))
 
 -- after the last part: the range to where it ends is the whole one
 pub last_part : (xs text : List ℕ) (i j k : ℕ) → (j ≤ k) ⊎ (j ≡ i) → k ≤ j → SpellsInParts (slice_range xs i j) text →
@@ -39,3 +41,33 @@ last_part xs text i j k (inl le) past parts =
     let same : j - i ≡ k - i = omega arith in subst (λ n. SpellsInParts (take n (drop i xs)) text) same parts
 last_part xs text i j k (inr e) past parts =
     let same : j - i ≡ k - i = omega arith in subst (λ n. SpellsInParts (take n (drop i xs)) text) same parts
+
+-- what a write of b, which ends at e, leaves from a later offset on
+module _ (xs b : List ℕ) (o e : ℕ) (ends : e ≡ o + length b) (within : e ≤ length xs) where
+  whole : length (take o xs ++ (b ++ drop e xs)) ≡ length xs
+  whole =
+      omega (arith, length-append (take o xs) (b ++ drop e xs), length-append b (drop e xs), length-take-le o xs (omega arith), length-drop e xs)
+
+  front : length (take o xs ++ b) ≡ e
+  front = omega (arith, length-append (take o xs) b, length-take-le o xs (omega arith))
+
+  after_end : drop e (take o xs ++ (b ++ drop e xs)) ≡ drop e xs
+  after_end =
+      ap (drop e) (sym (append_assoc (take o xs) b (drop e xs)))
+      ∙ ap (λ n. drop n ((take o xs ++ b) ++ drop e xs)) (sym front) ∙ drop-append_seam (take o xs ++ b) (drop e xs)
+
+  kept : (limit size : ℕ) → e ≤ limit → size ≡ length xs →
+      drop limit (take size ((take o xs ++ (b ++ drop e xs)) ++ drop (length (take o xs ++ (b ++ drop e xs))) xs)) ≡ drop limit xs
+  kept limit size low long =
+      ap (drop limit) (taken (take o xs ++ (b ++ drop e xs)) _ size (long ∙ sym whole))
+      ∙ later_same (take o xs ++ (b ++ drop e xs)) xs e limit low after_end
+
+pub kept_after : (xs s b post : List ℕ) (o e limit size : ℕ) → s ≡ xs → post ≡ drop e s → e ≡ o + length b → e ≤ length xs →
+    e ≤ limit → size ≡ length xs →
+    drop limit (take size ((take o s ++ (b ++ post)) ++ drop (length (take o s ++ (b ++ post))) xs)) ≡ drop limit xs
+kept_after xs s b post o e limit size is after ends within low long =
+    subst
+    (λ l. drop limit (take size ((take o l ++ (b ++ post)) ++ drop (length (take o l ++ (b ++ post))) xs)) ≡ drop limit xs) (sym is)
+    (subst
+    (λ l. drop limit (take size ((take o xs ++ (b ++ l)) ++ drop (length (take o xs ++ (b ++ l))) xs)) ≡ drop limit xs)
+    (sym (after ∙ ap (drop e) is)) (kept xs b o e ends within limit size low long))

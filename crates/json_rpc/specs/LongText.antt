@@ -10,5 +10,5 @@ SpellsText bytes text = document (code "\"" ∷ bytes ++ code "\"" ∷ []) ≡ S
 -- the bytes, cut into parts, spell the text: each part spells its part of it
 pub data SpellsInParts : List ℕ → List ℕ → Type 0 where
   no_part : SpellsInParts [] []
-  next_part : {bytes part text more : List ℕ} → SpellsInParts bytes text → SpellsText part more →
+  next_part : (bytes part text more : List ℕ) → SpellsInParts bytes text → SpellsText part more →
       SpellsInParts (bytes ++ part) (text ++ more)
