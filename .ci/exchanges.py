@@ -2,9 +2,10 @@ r"""Exchanges of a client with `patterns server`, for `.ci/runs`.
 
 Each is a file of crates/patterns/data/exchanges. A line `> JSON` is a message of the client, and `>> TEXT` are bytes that it writes as they
 are, with the escapes of Python. A line `+ NAME TEXT` writes a file, with these escapes, in the folder of the server, whose path is FOLDER in
-messages. The lines `< JSON` below are the messages of the server that follow, with the names of their fields in the
-order in which they are written. A line `= STATUS` is the exit status, and `! TEXT` what is written to standard error. Other lines are
-comments. After each line `>` the client asks for a method that no server has, and waits for the answer, which is not shown.
+messages, and a line `$ WORDS` has the words after `patterns server`. The lines `< JSON` below are the messages of the server that follow,
+with the names of their fields in the order in which they are written. A line `= STATUS` is the exit status, and `! TEXT` what is written to
+standard error. Other lines are comments. After each line `>` the client asks for a method that no server has, and waits for the answer,
+which is not shown.
 """
 import json
 import subprocess
@@ -55,6 +56,11 @@ def parts_of(text: str, folder: str = "FOLDER") -> list:
     return found
 
 
+def words_of(text: str) -> list:
+    """The words after `patterns server` in an exchange."""
+    return [word for line in text.splitlines() if line.startswith("$ ") for word in line[2:].split()]
+
+
 def message(stream) -> Optional[str]:
     """The next message of the server; None at the end."""
     length = None
@@ -92,7 +98,7 @@ def played(program: Path, text: str) -> str:
     """The exchange with what the server writes."""
     lines = []
     with tempfile.TemporaryDirectory() as folder:
-        process = subprocess.Popen([program, "server"], cwd=folder, stdin=subprocess.PIPE, stdout=subprocess.PIPE,
+        process = subprocess.Popen([program, "server", *words_of(text)], cwd=folder, stdin=subprocess.PIPE, stdout=subprocess.PIPE,
                                    stderr=subprocess.PIPE)
         for part in parts_of(text, folder):
             lines.append(part.line)

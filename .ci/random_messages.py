@@ -1,10 +1,11 @@
 """Random messages to `patterns server`, for `.ci/runs`; by itself `.ci/random_messages.py PROGRAM [COUNT [SEED]]`.
 
-Documents, lines of patterns and grammars of TextMate, are opened, changed at random, whole and by ranges, and closed. What is reported
-after a change has to be what is reported when the text is opened that the changes lead to by the protocol, which is computed here. A
-change at a position that a document does not have has to be refused, and the document to stay as it was. Each request has to get one
-answer, and what is no JSON a refusal. Each range has to be in the document, edits not to overlap, and a text that was formatted to stay
-when it is formatted again. The same of long texts, which are read otherwise: whole, escaped or not, and wrong.
+Documents, lines of patterns and grammars of TextMate, or with every other seed patterns of several lines, are opened, changed at random,
+whole and by ranges, and closed. What is reported after a change has to be what is reported when the text is opened that the changes lead to
+by the protocol, which is computed here. A change at a position that a document does not have has to be refused, and the document to stay as
+it was. Each request has to get one answer, and what is no JSON a refusal. Each range has to be in the document, edits and tokens not to
+overlap, and a text that was formatted to stay when it is formatted again. The same of long texts, which are read otherwise: whole, escaped
+or not, and wrong.
 """
 import json
 import random
@@ -23,6 +24,8 @@ from programs import TRIED, Check, Output, path_of
 # than these sends long texts too.
 COUNT, TRIED_COUNT = 500, 50
 SEEDS = (1, 2, 3, 4)
+# The words of a server whose documents are patterns of several lines.
+SEVERAL_LINES = ("-z", "--flags", "ux")
 
 ALPHABET = ["a", "b", "(", ")", "|", "*", "{1}", "[a]", "[", "]", "\\d", "\\", "é", "𝄞", "\n", "\r", "\r\n", "?", "(?<n>", "\\k<n>", "#"]
 LINE_ENDS = ("\n", "\r")
@@ -124,8 +127,8 @@ REQUESTS = ("hover", "definition", "references", "documentHighlight", "prepareRe
 class Client:
     """A client of a server."""
 
-    def __init__(self, program: str, folder: str, utf8: bool) -> None:
-        self.process = subprocess.Popen([program, "server"], cwd=folder, stdin=subprocess.PIPE, stdout=subprocess.PIPE)
+    def __init__(self, program: str, folder: str, utf8: bool, words: tuple = ()) -> None:
+        self.process = subprocess.Popen([program, "server", *words], cwd=folder, stdin=subprocess.PIPE, stdout=subprocess.PIPE)
         self.number = 0
         encodings = ["utf-8"] if utf8 else ["utf-16"]
         symbols = {"documentSymbol": {"hierarchicalDocumentSymbolSupport": True}}
@@ -169,6 +172,19 @@ def diagnostics(notes: list, uri: str) -> Optional[list]:
     return json.loads(json.dumps(found[-1]).replace(uri, "")) if found else None
 
 
+def check_tokens(text: str, data: list, utf8: bool) -> None:
+    """Tokens have to be in the document, each in one line, and not to overlap."""
+    line = character = 0
+    ranges = []
+    for lines, characters, length in zip(data[::5], data[1::5], data[2::5]):
+        line, character = line + lines, characters + (0 if lines else character)
+        ends = [{"line": line, "character": it} for it in (character, character + length)]
+        start, end = (index_of(text, it, utf8) for it in ends)
+        assert length == sum(units(c, utf8) for c in text[start:end]) > 0, (text, data, ends)
+        ranges.append(dict(zip(("start", "end"), ends)))
+    edited(text, [{"range": it, "newText": ""} for it in ranges], utf8)
+
+
 def some_request(rng: random.Random, uri: str, text: str) -> tuple:
     """A request about a document: its method, and its parameters, of which one may be missing."""
     position = some_position(rng, text)
@@ -196,6 +212,10 @@ def request(rng: random.Random, client: Client, document: dict, utf8: bool) -> N
         edited(text, it["edit"]["changes"][uri], utf8)
     if result and method == "textDocument/rename":
         edited(text, result["changes"][uri], utf8)
+    if result and method == "textDocument/semanticTokens/full":
+        check_tokens(text, result["data"], utf8)
+    if result and method == "textDocument/foldingRange":
+        assert all(it["startLine"] < it["endLine"] < len(lines_of(text)) for it in result), (text, result)
     if result and method == "textDocument/prepareRename":
         edited(text, [{"range": result, "newText": ""}], utf8)
     if rng.random() < 0.05:
@@ -296,7 +316,7 @@ def played(program: Path, total: int, seed: int) -> str:
     rng, count = random.Random(seed), 0
     with tempfile.TemporaryDirectory() as folder:
         for utf8 in (False, True):
-            client = Client(str(program), folder, utf8)
+            client = Client(str(program), folder, utf8, () if seed % 2 else SEVERAL_LINES)
             if seed == SEEDS[0] and total > TRIED_COUNT:
                 long_texts(rng, client, utf8)
             for _ in range(total // 2):

@@ -19,7 +19,7 @@ from itertools import count
 from pathlib import Path
 from typing import NamedTuple, Optional
 
-from exchanges import EXCHANGES, message, parts_of
+from exchanges import EXCHANGES, message, parts_of, words_of
 from programs import decoded
 from random_messages import session
 
@@ -36,11 +36,11 @@ class Session(NamedTuple):
     is_refused: bool
 
 
-def played(program: str, sent: bytes, env: dict) -> Session:
-    """What comes of messages."""
+def played(program: str, sent: bytes, env: dict, arguments: list = ()) -> Session:
+    """What comes of messages to a server with these arguments."""
     with tempfile.TemporaryDirectory() as folder, tempfile.TemporaryFile() as refused:
         # The shell itself has none of its requests refused.
-        words = ["env", *(f"{name}={value}" for name, value in env.items()), program, "server"]
+        words = ["env", *(f"{name}={value}" for name, value in env.items()), program, "server", *arguments]
         command = ["bash", "-c", f'exec 9<&{refused.fileno()}; exec "$@"', "bash", *words]
         got = subprocess.run(command, cwd=folder, input=sent, pass_fds=[refused.fileno()], capture_output=True, check=False)
         stream, messages = BytesIO(got.stdout), []
@@ -93,10 +93,11 @@ def is_right(sent: bytes, got: Session, wanted: Session) -> bool:
 
 def refused(program: str, library: str, file: Path) -> int:
     """Refuses each request in an exchange, and returns how many there were."""
-    sent = b"".join(it.sent for it in parts_of(decoded(file.read_bytes())) if it.sent and not it.file)
-    wanted = played(program, sent, {})
+    text = decoded(file.read_bytes())
+    sent = b"".join(it.sent for it in parts_of(text) if it.sent and not it.file)
+    wanted = played(program, sent, {}, words_of(text))
     for number in count(1):
-        got = played(program, sent, {"REFUSED_REQUEST": str(number), "LD_PRELOAD": library})
+        got = played(program, sent, {"REFUSED_REQUEST": str(number), "LD_PRELOAD": library}, words_of(text))
         assert is_right(sent, got, wanted), (file.name, number, got.status, got.messages)
         if not got.is_refused:
             return number - 1

@@ -1,2 +1,3 @@
 pub mod FieldLemmas
 pub mod LineLemmas
+pub mod PartLemmas

@@ -1,2 +1,3 @@
 pub mod ErrorCode
 pub mod Header
+pub mod LongText

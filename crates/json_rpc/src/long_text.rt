@@ -1,5 +1,6 @@
 //! The long text of a message, which is unescaped in the message's own memory, so that it is in memory once.
-ghost use Rattle.std.specs.Prelude.{◌≡◌, ◌++◌, ◌≤◌, ◌<◌, take, drop, length, codes, IfOk, IfSome};
+ghost use Rattle.std.specs.Prelude.{◌≡◌, ℕ, List, ◌+◌, ◌++◌, ◌≤◌, ◌<◌, take, drop, length, codes, slice_range, string_bytes, IfOk, IfSome};
+ghost use Rattle.json_rpc.specs.LongText.{SpellsText, SpellsInParts};
 
 use json::{Scratch, Value};
 use std::alloc::{AllocError, Global};
@@ -95,7 +96,9 @@ fn has_placeholder(part: &[u8]) -> bool {
 }
 
 /// How many bytes spell the first character of a text; of half of a surrogate pair, those of the pair.
-fn spelled_length(text: &[u8]) -> usize {
+fn spelled_length(text: &[u8]) -> usize
+    ensures { 0 < result }
+{
     match text {
         [
             b'\\',
@@ -118,42 +121,59 @@ fn is_inside(message: &[u8], offset: usize) -> bool {
 }
 
 /// Where the next piece of a text ends, which is at this span: after whole characters.
-fn piece_end(message: &[u8], text: TextSpan) -> usize {
+fn piece_end(message: &[u8], text: TextSpan) -> usize
+    ensures later { text.start < text.end → text.start < result }
+    ensures within { result ≤ text.end }
+{
     let mut end = text.start;
-    for _ in text.start..text.end {
-        let length = end.saturating_sub(text.start);
-        if end >= text.end || (length >= PIECE && !is_inside(message, end)) {
-            break;
+    while end < text.end {
+        let spelled = spelled_length(message.get(end..).unwrap_or(&[]));
+        end = end.saturating_add(spelled).min(text.end);
+        if end.saturating_sub(text.start) >= PIECE && !is_inside(message, end) {
+            return end;
         }
-        end = end.saturating_add(spelled_length(message.get(end..).unwrap_or(&[])));
     }
-    end.min(text.end)
+    text.end
 }
 
-/// Writes the piece, unescaped, to the message at the offset, and returns how many bytes it has then; None if it is no JSON.
+/// Writes the piece, unescaped, to the message at the offset, and returns how many bytes it has then, which end before the rest
+/// of the message; None if it is no text of JSON.
 fn move_piece(
     alloc: Global,
     message: &mut Vec<u8>,
     piece: TextSpan,
     offset: usize,
-) -> Result<Option<usize>, AllocError> {
-    let mut spelled = Vec::new(alloc);
-    spelled.extend_from_slice(b"\"")?;
-    spelled.extend_from_slice(message.get(piece.start..piece.end).unwrap_or(&[]))?;
+) -> Result<Option<usize>, AllocError>
+    ensures moved { IfOk result (λ found. IfSome found (λ n. (text : List ℕ)
+        × SpellsText (slice_range message.old.items piece.start piece.end) text
+        × (take (offset + n) message.new.items ≡ take offset message.old.items ++ text))) }
+    ensures within { IfOk result (λ found. IfSome found (λ n. offset + n ≤ piece.end)) }
+    ensures rest { drop piece.end message.new.items ≡ drop piece.end message.old.items }
+{
+    let Some(part) = message.get(piece.start..piece.end) else {
+        return Ok(None);
+    };
+    let mut spelled = Vec::from_slice(alloc, b"\"")?;
+    spelled.extend_from_slice(part)?;
     spelled.extend_from_slice(b"\"")?;
     let mut scratch = Scratch::new(alloc);
     match Value::from_slice(alloc, &spelled, &mut scratch) {
-        Ok(Value::String(text)) => Ok(write_at(message, offset, text.as_bytes())),
+        Ok(Value::String(text)) => Ok(write_at(message, offset, text.as_bytes(), piece.end)),
         Err(json::Error::OutOfMemory) => Err(AllocError),
         _ => Ok(None),
     }
 }
 
-/// Writes the bytes to the message at the offset, and returns how many; None if the message ends before.
-fn write_at(message: &mut Vec<u8>, offset: usize, bytes: &[u8]) -> Option<usize> {
+/// Writes the bytes to the message at the offset, and returns how many; None if they would end after the limit.
+fn write_at(message: &mut Vec<u8>, offset: usize, bytes: &[u8], limit: usize) -> Option<usize>
+    ensures written { IfSome result (λ n. take (offset + n) message.new.items
+        ≡ take offset message.old.items ++ bytes.now) }
+    ensures within { IfSome result (λ n. offset + n ≤ limit) }
+    ensures rest { drop limit message.new.items ≡ drop limit message.old.items }
+{
     let length = bytes.len();
     let end = offset.checked_add(length)?;
-    if message.len() < end {
+    if limit.min(message.len()) < end {
         return None;
     }
     message[offset..end].copy_from_slice(bytes);
@@ -165,12 +185,12 @@ pub fn unescaped(
     alloc: Global,
     mut message: Vec<u8>,
     text: TextSpan,
-) -> Result<Option<String>, AllocError> {
+) -> Result<Option<String>, AllocError>
+    ensures { IfOk result (λ found. IfSome found (λ unescaped. SpellsInParts
+        (slice_range message.items text.start text.end) (string_bytes unescaped))) }
+{
     let (mut start, mut length) = (text.start, 0usize);
-    for _ in text.start..text.end {
-        if start >= text.end {
-            break;
-        }
+    while start < text.end {
         let end = piece_end(&message, TextSpan { start, ..text });
         let piece = TextSpan { start, end };
         let Some(written) = move_piece(alloc, &mut message, piece, length)? else {

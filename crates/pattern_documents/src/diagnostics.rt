@@ -21,11 +21,11 @@ use std::mem;
 /// How many reports on a document are sent, and those of one pattern more: editors show no more.
 const MAX_REPORTS: usize = 1000;
 
-/// How many bytes a document has at most whose patterns are reported on.
-const MAX_BYTES: usize = 8 << 20;
+/// That the patterns of a document are not read.
+const TOO_LARGE: &str = "patterns of documents of more than 8 MiB are not read";
 
-/// That a document is not reported on.
-const TOO_LARGE: &str = "documents of more than 8 MiB are not searched for mistakes";
+/// That a pattern of a document is not read.
+const TOO_LONG: &str = "patterns of more than 256 KiB are not read";
 
 /// The number that the protocol has for how bad it is what is reported.
 fn severity_number(severity: Severity) -> u64 {
@@ -47,6 +47,29 @@ fn is_needless(rule: Rule) -> bool {
         ) => true,
         Some(FixKind::SingleCharacterClass) | None => false,
     }
+}
+
+/// What reports on a document name.
+#[derive(Clone, Copy)]
+pub struct Addresses<'a> {
+    /// The URI of the document.
+    pub document: &'a str,
+    /// The address of the page on rules, if the client has given it.
+    pub rule_page: Option<&'a str>,
+}
+
+/// Writes the link to what the page says of the rule.
+fn write_link(
+    alloc: Global,
+    writer: &mut Writer,
+    page: &str,
+    rule: Rule,
+) -> Result<(), AllocError> {
+    let address = format!(in alloc; "{page}#{}", rule.name())?;
+    writer.key("codeDescription")?;
+    writer.begin_object()?;
+    write_text(writer, "href", address.as_str())?;
+    writer.end_object()
 }
 
 /// Writes the part that a message names.
@@ -86,7 +109,7 @@ fn write_message(alloc: Global, writer: &mut Writer, report: &Report) -> Result<
 fn write_report(
     alloc: Global,
     writer: &mut Writer,
-    uri: &str,
+    addresses: Addresses<'_>,
     located: Located<'_, '_>,
     report: &Report,
 ) -> Result<(), AllocError> {
@@ -97,6 +120,9 @@ fn write_report(
     if let Some(code) = report.code {
         write_text(writer, "code", code)?;
     }
+    if let (Some(page), Some(rule)) = (addresses.rule_page, report.rule) {
+        write_link(alloc, writer, page, rule)?;
+    }
     write_text(writer, "source", "patterns")?;
     write_message(alloc, writer, report)?;
     if report.rule.is_some_and(is_needless) {
@@ -106,7 +132,7 @@ fn write_report(
         writer.end_array()?;
     }
     if let Some(related) = &report.related {
-        write_related(writer, uri, located, related)?;
+        write_related(writer, addresses.document, located, related)?;
     }
     writer.end_object()
 }
@@ -127,11 +153,21 @@ fn write_notice(
     writer.end_object()
 }
 
+/// Writes a notice at the start of a document.
+fn write_notice_at_start(
+    given: Settings<'_>,
+    writer: &mut Writer,
+    message: &str,
+) -> Result<(), AllocError> {
+    let start = Cursor::start(given.encoding, "").position();
+    write_notice(writer, start, Severity::Notice, message)
+}
+
 /// Writes what is reported on the patterns of a document, one after another.
 #[derive(Drop)]
 struct ReportWalk<'d> {
     alloc: Global,
-    uri: &'d str,
+    addresses: Addresses<'d>,
     locator: Locator<'d>,
     patterns: &'d mut EditedPatterns,
     /// The patterns before the last change, and those that are there now.
@@ -146,7 +182,7 @@ impl ReportWalk<'_> {
     /// Writes the reports on a pattern.
     fn write(&mut self, located: Located<'_, '_>, reports: &[Report]) -> Result<(), AllocError> {
         for report in reports {
-            write_report(self.alloc, self.writer, self.uri, located, report)?;
+            write_report(self.alloc, self.writer, self.addresses, located, report)?;
         }
         self.count = self.count.saturating_add(reports.len());
         Ok(())
@@ -216,7 +252,7 @@ fn end_reports(mut writer: Writer) -> Result<Vec<u8>, AllocError> {
 /// Writes what is reported on the patterns of a document, and returns these. Those before its last change are given.
 fn write_all(
     given: Settings<'_>,
-    uri: &str,
+    addresses: Addresses<'_>,
     source: &DocumentSource,
     patterns: &mut EditedPatterns,
     known: KnownPatterns,
@@ -226,7 +262,7 @@ fn write_all(
     let flags = patterns.flags;
     let mut walk = ReportWalk {
         alloc,
-        uri,
+        addresses,
         locator: Locator::new(given.encoding, source.text()),
         patterns: &mut *patterns,
         old: known,
@@ -234,37 +270,38 @@ fn write_all(
         count: 0,
         writer: &mut *writer,
     };
-    source.visit(given, flags, &mut walk)?;
+    if source.visit(given, flags, &mut walk)? {
+        write_notice_at_start(given, walk.writer, TOO_LONG)?;
+    }
     Ok(walk.new)
 }
 
 /// Writes what is reported on the patterns of a document.
 fn write_reports(
     given: Settings<'_>,
-    uri: &str,
+    addresses: Addresses<'_>,
     document: &mut OpenDocument,
     writer: &mut Writer,
 ) -> Result<(), RunError> {
     let known = mem::replace(&mut document.known, KnownPatterns::none(given.alloc));
     let (source, patterns) = (&document.source, &mut document.patterns);
-    document.known = write_all(given, uri, source, patterns, known, writer)?;
+    document.known = write_all(given, addresses, source, patterns, known, writer)?;
     Ok(())
 }
 
 /// The notification of what is reported on a document.
 pub fn diagnostics(
     given: Settings<'_>,
-    uri: &str,
+    addresses: Addresses<'_>,
     document: &mut OpenDocument,
 ) -> Result<Vec<u8>, RunError> {
     let version = document.source.document.version;
-    let mut writer = begin_reports(given.alloc, uri, Some(version))?;
-    if document.source.text().len() > MAX_BYTES {
+    let mut writer = begin_reports(given.alloc, addresses.document, Some(version))?;
+    if document.source.is_large() {
         document.known = KnownPatterns::none(given.alloc);
-        let start = Cursor::start(given.encoding, "").position();
-        write_notice(&mut writer, start, Severity::Notice, TOO_LARGE)?;
+        write_notice_at_start(given, &mut writer, TOO_LARGE)?;
     } else {
-        write_reports(given, uri, document, &mut writer)?;
+        write_reports(given, addresses, document, &mut writer)?;
     }
     Ok(end_reports(writer)?)
 }

@@ -1,10 +1,14 @@
 //! Documents that are open.
+ghost use Rattle.std.specs.Prelude.{◌≡◌, chars, string_bytes, Some, None, IfOk, OnOk, OnErr, IsErrOf};
+ghost use Rattle.editor_documents.specs.Change.{with_changes};
+ghost use Rattle.editor_documents.specs.declared.change.ChangeError.{ChangeError};
+
 use crate::known::KnownPatterns;
 use crate::uri::path_of;
 use editor_documents::change::{Change, ChangeError};
 use editor_documents::document::Document;
 use editor_documents::position::Encoding;
-use pattern_files::entry::Visitor;
+use pattern_files::entry::{Entry, Unread, Visitor};
 use pattern_files::form::{FileFormat, NamedFormat};
 use pattern_files::lines::Ending;
 use pattern_files::sources::{STANDARD_INPUT, System};
@@ -19,6 +23,12 @@ use patterns_program::edited::EditedPatterns;
 use patterns_text::error::RunError;
 use std::alloc::{AllocError, Global};
 
+/// How many bytes a document has at most whose patterns are read.
+const MAX_BYTES: usize = 8 << 20;
+
+/// How many bytes a document spells a pattern in at most that is read: its tree takes hundreds of times as many.
+const MAX_PATTERN: usize = 1 << 18;
+
 /// What is given for all documents.
 #[derive(Clone, Copy)]
 pub struct Settings<'a> {
@@ -26,6 +36,32 @@ pub struct Settings<'a> {
     pub choices: Choices<'a>,
     /// What positions are counted in.
     pub encoding: Encoding,
+}
+
+/// Visits the patterns that are not too long.
+#[derive(Drop)]
+struct ShortPatterns<'v, V> {
+    visitor: &'v mut V,
+    /// Whether one is too long.
+    has_long: bool,
+}
+
+impl<V: Visitor> Visitor for ShortPatterns<'_, V> {
+    fn pattern(&mut self, entry: Entry<'_>) -> Result<(), RunError> {
+        if entry.contents.len() > MAX_PATTERN {
+            self.has_long = true;
+            return Ok(());
+        }
+        self.visitor.pattern(entry)
+    }
+
+    fn unread(&mut self, unread: Unread<'_>) -> Result<(), RunError> {
+        self.visitor.unread(unread)
+    }
+
+    fn is_done(&self) -> bool {
+        self.visitor.is_done()
+    }
 }
 
 /// A document, and how it has patterns.
@@ -127,15 +163,20 @@ impl DocumentSource {
         ))
     }
 
-    /// Visits its patterns, which are parsed under these flags.
+    /// Whether it is too large for its patterns to be read.
+    pub fn is_large(&self) -> bool {
+        self.text().len() > MAX_BYTES
+    }
+
+    /// Visits its patterns, which are parsed under these flags, and returns whether one is passed over that is too long.
     pub fn visit<V: Visitor>(
         &self,
         given: Settings<'_>,
         flags: u32,
         visitor: &mut V,
-    ) -> Result<(), RunError> {
+    ) -> Result<bool, RunError> {
         let Some(form) = self.form(given)? else {
-            return Ok(());
+            return Ok(false);
         };
         let shape = FileShape {
             form,
@@ -143,7 +184,18 @@ impl DocumentSource {
             has_grammars: true,
         };
         let mut reader = self.text().as_bytes();
-        visit(given.alloc, shape, self.name.as_str(), &mut reader, visitor)
+        let mut short = ShortPatterns {
+            visitor,
+            has_long: false,
+        };
+        visit(
+            given.alloc,
+            shape,
+            self.name.as_str(),
+            &mut reader,
+            &mut short,
+        )?;
+        Ok(short.has_long)
     }
 
     /// How its patterns are formatted.
@@ -177,7 +229,9 @@ impl OpenDocument {
         text: String,
         system: &S,
         err: &mut Vec<u8>,
-    ) -> Result<OpenDocument, RunError> {
+    ) -> Result<OpenDocument, RunError>
+        ensures text { IfOk result (λ d. d.source.document.text ≡ text) }
+    {
         let alloc = given.alloc;
         let name = match path_of(alloc, opened.uri)? {
             Some(path) => path,
@@ -208,7 +262,14 @@ impl OpenDocument {
         given: Settings<'_>,
         version: i64,
         changes: &[Change<'_>],
-    ) -> Result<(), ChangeError> {
+    ) -> Result<(), ChangeError>
+        ensures ok { OnOk result (with_changes given.entry.encoding
+            (chars (string_bytes self.old.source.document.text)) changes.now
+            ≡ Some (chars (string_bytes self.new.source.document.text))) }
+        ensures position { IsErrOf result ChangeError.Position → with_changes given.entry.encoding
+            (chars (string_bytes self.old.source.document.text)) changes.now ≡ None }
+        ensures err { OnErr result (self.new.source.document ≡ self.old.source.document) }
+    {
         let Settings {
             alloc,
             encoding,
@@ -223,7 +284,9 @@ impl OpenDocument {
     }
 
     /// Makes the text, which leads to this version, the one of the document.
-    pub fn replace(&mut self, version: i64, text: String) {
+    pub fn replace(&mut self, version: i64, text: String)
+        ensures text { self.new.source.document.text ≡ text }
+    {
         let before = self.source.document.replace(version, text);
         self.known.change(before);
     }

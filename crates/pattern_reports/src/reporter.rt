@@ -1,6 +1,6 @@
 //! What writes reports on patterns.
 ghost use Rattle.std.specs.Prelude.{IfOk, IfSome, OnSome, IfNone};
-ghost use Rattle.patterns_text.specs.Subject.{IsAccepted, IsRefused, IsParsedAs};
+ghost use Rattle.patterns_text.specs.Subject.{IsAccepted, IsRefused, IsParsedAs, HasTrivia};
 
 use fancy_syntax::span::Span;
 use fancy_syntax::spanned::SpannedTree;
@@ -69,6 +69,7 @@ pub fn parse<R: Reporter>(
 ) -> Result<Option<SpannedTree>, RunError>
     ensures read { IfOk result (λ reading. OnSome reading (IsAccepted subject.entry)) }
     ensures tree { IfOk result (λ reading. IfSome reading (λ t. IsParsedAs subject.entry t.tree)) }
+    ensures trivia { IfOk result (λ reading. IfSome reading (λ t. HasTrivia subject.entry t.trivia)) }
     ensures refused { IfOk result (λ reading. IfNone reading (IsRefused subject.entry)) }
 {
     match subject.parse()? {

@@ -7,7 +7,7 @@ ghost use Rattle.patterns_program.specs.Fixes.{IsFixedOnce, IsFixedRepeatedly};
 ghost use Rattle.patterns_program.specs.Rewriting.{IfChanged};
 ghost use Rattle.patterns_program.specs.declared.outcome.Outcome.{Outcome};
 ghost use Rattle.patterns_program.specs.declared.rewriting.Rewriting.TheVariants.{Stays};
-ghost use Rattle.patterns_text.specs.Subject.{IsAccepted, IsParsedAs, IsRefused};
+ghost use Rattle.patterns_text.specs.Subject.{HasTrivia, IsAccepted, IsParsedAs, IsRefused};
 
 use crate::outcome::Outcome;
 use crate::rewriting::Rewriting;
@@ -59,6 +59,7 @@ fn parse_in(
 ) -> Result<Option<SpannedTree>, RunError>
     ensures read { IfOk result (λ parsed. OnSome parsed (IsAccepted subject.entry)) }
     ensures tree { IfOk result (λ parsed. IfSome parsed (λ t. IsParsedAs subject.entry t.tree)) }
+    ensures trivia { IfOk result (λ parsed. IfSome parsed (λ t. HasTrivia subject.entry t.trivia)) }
     ensures refused { IfOk result (λ parsed. IfNone parsed (IsRefused subject.entry)) }
 {
     if dialect.is_none() {

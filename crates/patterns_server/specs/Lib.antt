@@ -1,1 +1,2 @@
+pub mod Renamed
 pub mod Stage

@@ -1,5 +1,5 @@
 //! What the server can do, as `initialize` says it, and what the client can.
-use crate::params::member;
+use crate::params::{member, text};
 use crate::tokens::TOKEN_KINDS;
 use editor_documents::position::Encoding;
 use json::{Value, Writer};
@@ -44,6 +44,11 @@ impl ClientSupport {
             has_action_kinds: kinds.is_some(),
         }
     }
+}
+
+/// The address of the page on rules, if the parameters of `initialize` have it.
+pub(crate) fn rule_page<'a>(params: Option<&Value<'a>>) -> Option<&'a str> {
+    text(params, &["initializationOptions", "rulePage"])
 }
 
 /// What positions are counted in: UTF-8 if the client offers it, else UTF-16.

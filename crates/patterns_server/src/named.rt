@@ -1,7 +1,10 @@
 //! Names of groups, and new ones in their place.
-ghost use Rattle.std.specs.Prelude.{◌≡◌};
+ghost use Rattle.std.specs.Prelude.{◌≡◌, chars, string_bytes, IfOk, IfSome, IsTrue};
 ghost use Rattle.std.specs.Bool.{OnTrue};
+ghost use Rattle.fancy_grammar.specs.Groups.{numbers_under};
+ghost use Rattle.fancy_syntax.specs.InfoViews.{info_of};
 ghost use Rattle.fancy_syntax.specs.View.{view};
+ghost use Rattle.patterns_server.specs.Renamed.{HaveNewName, IsRenamed};
 
 use crate::asked::Refused;
 use crate::query::ReadPattern;
@@ -128,21 +131,27 @@ fn with_name(
     Ok(renamed)
 }
 
+/// The numbers of the groups that have the name.
+fn numbers<'t>(tree: &'t ExprTree, name: &str) -> &'t [usize]
+    ensures { result.now ≡ numbers_under (info_of tree.now).named_groups (chars name.now) }
+{
+    match tree.named_groups.get(name) {
+        Some(numbers) => numbers.as_slice(),
+        None => &[],
+    }
+}
+
 /// Whether a pattern has become this one by another name of groups: the tree is the same, and the groups of the old name, and
 /// only those, have the new one.
 fn is_renamed(old: &ExprTree, new: &ExprTree, name: &str, new_name: &str) -> bool
     ensures tree { OnTrue result (view new.now.expr ≡ view old.now.expr) }
+    ensures groups { OnTrue result
+        (HaveNewName (info_of old.now) (info_of new.now) (chars name.now) (chars new_name.now)) }
 {
-    let (Some(groups), Some(new_groups)) = (
-        old.named_groups.get(name),
-        new.named_groups.get(new_name),
-    ) else {
-        return false;
-    };
     new.expr == old.expr
         && old.named_groups.len() == new.named_groups.len()
-        && old.named_groups.get(new_name).is_none()
-        && groups.as_slice() == new_groups.as_slice()
+        && numbers(new, new_name) == numbers(old, name)
+        && numbers(old, new_name).is_empty()
 }
 
 /// Whether a text is the pattern with the new name in the place of this one, and without another change.
@@ -151,7 +160,9 @@ fn is_renaming(
     text: &str,
     name: &str,
     new: &str,
-) -> Result<bool, RunError> {
+) -> Result<bool, RunError>
+    ensures { IfOk result (λ b. IsTrue b → IsRenamed pattern.entry name.now new.now text.now) }
+{
     let Subject { alloc, flags, .. } = pattern.subject;
     match Subject::of_argument(alloc, flags, text).parse()? {
         Ok(parsed) => Ok(is_renamed(&pattern.parsed.tree, &parsed.tree, name, new)),
@@ -164,12 +175,17 @@ fn renamed(
     pattern: ReadPattern<'_, '_, '_>,
     name: &str,
     new: &str,
-) -> Result<Option<String>, RunError> {
+) -> Result<Option<String>, RunError>
+    ensures { IfOk result (λ found. IfSome found (λ text. IsRenamed pattern.entry name.now new.now (string_bytes text))) }
+{
     let alloc = pattern.subject.alloc;
     let starts = name_starts(alloc, pattern, name)?;
     let text = with_name(alloc, pattern.subject.pattern, &starts, name, new)?;
-    let is_same = is_renaming(pattern, text.as_str(), name, new)?;
-    Ok(is_same.then_some(text))
+    if is_renaming(pattern, text.as_str(), name, new)? {
+        Ok(Some(text))
+    } else {
+        Ok(None)
+    }
 }
 
 /// The part of the pattern that a rename at a node replaces: the name in it, or else in the group that it refers to.

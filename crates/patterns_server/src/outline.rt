@@ -18,6 +18,9 @@ use std::alloc::{AllocError, Global};
 /// How many characters of a pattern its symbol has.
 const MAX_CHARACTERS: usize = 60;
 
+/// How many symbols of a document are sent, and those of one pattern more.
+const MAX_SYMBOLS: usize = 20_000;
+
 /// The numbers that the protocol has for a constant, and for a key.
 const CONSTANT: u64 = 14;
 
@@ -48,6 +51,8 @@ struct OutlineWalk<'d> {
     is_nested: bool,
     locator: Locator<'d>,
     patterns: &'d EditedPatterns,
+    /// How many symbols are written.
+    count: usize,
     writer: &'d mut Writer,
 }
 
@@ -60,6 +65,7 @@ impl OutlineWalk<'_> {
         kind: u64,
         span: Span,
     ) -> Result<(), AllocError> {
+        self.count = self.count.saturating_add(1);
         self.writer.begin_object()?;
         write_named(self.writer, name, kind)?;
         if !self.is_nested {
@@ -131,6 +137,10 @@ impl Visitor for OutlineWalk<'_> {
         }
         Ok(())
     }
+
+    fn is_done(&self) -> bool {
+        self.count >= MAX_SYMBOLS
+    }
 }
 
 /// Writes a symbol for each valid pattern of a document that is not blank, and for each of its groups: in the symbols of what
@@ -149,6 +159,7 @@ pub(crate) fn write_symbols(
         is_nested,
         locator: Locator::new(given.encoding, document.source.text()),
         patterns: &document.patterns,
+        count: 0,
         writer,
     };
     document

@@ -4,7 +4,7 @@ ghost use Rattle.patterns_server.specs.Stage.{status_at};
 ghost use Rattle.patterns_server.specs.declared.session.Flow.TheVariants.{End};
 
 use crate::asked::{About, Refused, WRONG_PARAMS, asked, offsets};
-use crate::capabilities::{ClientSupport, write_capabilities};
+use crate::capabilities::{ClientSupport, rule_page, write_capabilities};
 use crate::folding::write_folds;
 use crate::method::Method;
 use crate::outline::write_symbols;
@@ -21,7 +21,7 @@ use json_rpc::long_text::{PLACEHOLDER, Shortened, unescaped, without_long_text};
 use json_rpc::message::{Id, Message};
 use json_rpc::reply::{begin_answer, begin_notification, finish, refusal};
 use pattern_documents::actions::write_actions;
-use pattern_documents::diagnostics::{diagnostics, no_diagnostics};
+use pattern_documents::diagnostics::{Addresses, diagnostics, no_diagnostics};
 use pattern_documents::document::{OpenDocument, Opened, Settings};
 use pattern_documents::formatting::write_formatted;
 use pattern_files::sources::System;
@@ -79,6 +79,8 @@ pub(crate) struct Session<'a, S, W> {
     stage: Stage,
     /// Whether the client takes symbols that are in others.
     has_nested_symbols: bool,
+    /// The address of the page on rules; empty if the client has not given it.
+    rule_page: String,
     documents: BTreeMap<String, OpenDocument>,
 }
 
@@ -100,6 +102,7 @@ impl<'a, S: System, W: Write> Session<'a, S, W> {
             out,
             stage: Stage::New,
             has_nested_symbols: false,
+            rule_page: String::new(alloc),
             documents: BTreeMap::new(alloc),
         }
     }
@@ -249,10 +252,12 @@ impl<'a, S: System, W: Write> Session<'a, S, W> {
 
     /// Agrees with the client on what both can do.
     fn initialize(&mut self, id: Id<'_>, params: Option<&Value<'_>>) -> Result<(), RunError> {
+        let alloc = self.given.alloc;
         let client = ClientSupport::of(params);
-        let mut writer = begin_answer(self.given.alloc, id)?;
+        let mut writer = begin_answer(alloc, id)?;
         write_capabilities(&mut writer, client)?;
         let message = finish(writer)?;
+        self.rule_page = String::from_str(alloc, rule_page(params).unwrap_or(""))?;
         self.given.encoding = client.encoding;
         self.has_nested_symbols = client.has_nested_symbols;
         self.stage = Stage::Running;
@@ -276,7 +281,7 @@ impl<'a, S: System, W: Write> Session<'a, S, W> {
         }
     }
 
-    /// Writes the result of a method.
+    /// Writes the result of a method: null if the document is too large for its patterns to be read.
     fn write_result(
         &mut self,
         method: Method,
@@ -295,12 +300,13 @@ impl<'a, S: System, W: Write> Session<'a, S, W> {
         let Some(document) = self.documents.get_mut(uri) else {
             return Ok(Err(NO_DOCUMENT));
         };
+        if document.source.is_large() {
+            writer.null()?;
+            return Ok(Ok(()));
+        }
         let text = document.source.text();
         if method == Method::SelectionRange {
-            return match offsets(given, text, params)? {
-                Ok(offsets) => write_selections(given, uri, document, &offsets, writer),
-                Err(refused) => Ok(Err(refused)),
-            };
+            return write_selections(given, uri, document, params, writer);
         }
         match asked(given.encoding, text, method, params) {
             Ok(About::Document) if method == Method::Symbols => {
@@ -344,7 +350,12 @@ impl<'a, S: System, W: Write> Session<'a, S, W> {
         let Some(document) = self.documents.get_mut(uri) else {
             return Ok(());
         };
-        let message = diagnostics(given, uri, document)?;
+        let page = self.rule_page.as_str();
+        let addresses = Addresses {
+            document: uri,
+            rule_page: (!page.is_empty()).then_some(page),
+        };
+        let message = diagnostics(given, addresses, document)?;
         self.send(&message)
     }
 
@@ -483,16 +494,20 @@ fn write_of_document(
     }
 }
 
-/// Writes the parts around positions, which are byte offsets, for each a list.
+/// Writes the parts around the positions that a request asks about, for each a list.
 fn write_selections(
     given: Settings<'_>,
     uri: &str,
     document: &OpenDocument,
-    offsets: &[usize],
+    params: Option<&Value<'_>>,
     writer: &mut Writer,
 ) -> Result<Result<(), Refused>, RunError> {
+    let offsets = match offsets(given, document.source.text(), params)? {
+        Ok(offsets) => offsets,
+        Err(refused) => return Ok(Err(refused)),
+    };
     writer.begin_array()?;
-    for offset in offsets {
+    for offset in &offsets {
         let answered = write_answer(given, uri, document, *offset, Query::Selection, writer)?;
         if let Err(refused) = answered {
             return Ok(Err(refused));

@@ -13,6 +13,9 @@ use patterns_text::error::RunError;
 use patterns_text::nodes::nodes_of;
 use std::alloc::{AllocError, Global};
 
+/// How many tokens of a document are sent, and those of one pattern more.
+const MAX_TOKENS: usize = 500_000;
+
 /// The kinds of tokens, as the protocol calls them, in the order of `TokenKind`.
 pub(crate) static TOKEN_KINDS: [&str; 6] = [
     "string", "type", "keyword", "variable", "operator", "comment",
@@ -128,11 +131,26 @@ struct TokenWalk<'d> {
     patterns: &'d EditedPatterns,
     /// Where the last token began.
     last: Position,
+    /// How many tokens are written.
+    count: usize,
     writer: &'d mut Writer,
 }
 
 impl TokenWalk<'_> {
-    /// Writes a token, if it is in one line.
+    /// Writes a token, in each of its lines by itself.
+    fn write_lines(&mut self, located: Located<'_, '_>, token: Token) -> Result<(), AllocError> {
+        let Token { span, kind } = token;
+        let mut start = span.start;
+        for line in span.text(located.entry.pattern).unwrap_or("").split('\n') {
+            let end = start.saturating_add(line.len());
+            let span = Span { start, end };
+            self.write(located, Token { span, kind })?;
+            start = end.saturating_add(1);
+        }
+        Ok(())
+    }
+
+    /// Writes a token, if it is in one line, and not empty.
     fn write(&mut self, located: Located<'_, '_>, token: Token) -> Result<(), AllocError> {
         let (start, end) = located.positions(token.span);
         if start.line != end.line || end.character <= start.character {
@@ -149,6 +167,7 @@ impl TokenWalk<'_> {
             self.writer.u64(number as u64)?;
         }
         self.last = start;
+        self.count = self.count.saturating_add(1);
         Ok(())
     }
 }
@@ -162,11 +181,15 @@ impl Visitor for TokenWalk<'_> {
         let mut end = 0usize;
         for token in &tokens_of(self.alloc, entry.pattern, &parsed)? {
             if token.span.start >= end {
-                self.write(located, *token)?;
+                self.write_lines(located, *token)?;
                 end = token.span.end;
             }
         }
         Ok(())
+    }
+
+    fn is_done(&self) -> bool {
+        self.count >= MAX_TOKENS
     }
 }
 
@@ -187,6 +210,7 @@ pub(crate) fn write_tokens(
             line: 0,
             character: 0,
         },
+        count: 0,
         writer,
     };
     document

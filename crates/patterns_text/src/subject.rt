@@ -2,7 +2,7 @@
 ghost use Rattle.std.specs.Prelude.{◌≡◌, chars, IfOk, OnOk, OnErr};
 ghost use Rattle.fancy_lex.specs.Flags.{flags_of};
 ghost use Rattle.fancy_syntax.specs.InfoViews.{HasTree, HasError};
-ghost use Rattle.patterns_text.specs.Subject.{IsAccepted, IsRefused, IsParsedAs};
+ghost use Rattle.patterns_text.specs.Subject.{IsAccepted, IsRefused, IsParsedAs, HasTrivia};
 
 use crate::error::RunError;
 use crate::excerpt::{Related, write_refusal};
@@ -105,6 +105,7 @@ impl<'a> Subject<'a> {
     pub fn parse(self) -> Result<Result<SpannedTree, Refusal>, RunError>
         ensures read { IfOk result (λ parsed. OnOk parsed (IsAccepted self.entry)) }
         ensures tree { IfOk result (λ parsed. IfOk parsed (λ t. IsParsedAs self.entry t.tree)) }
+        ensures trivia { IfOk result (λ parsed. IfOk parsed (λ t. HasTrivia self.entry t.trivia)) }
         ensures refused { IfOk result (λ parsed. OnErr parsed (IsRefused self.entry)) }
     {
         match SpannedTree::parse(self.alloc, self.pattern, self.flags) {
