@@ -18,8 +18,8 @@ decreases-add_look_around l = 3 * levels (view l.tree.now) + 1
 abbrev pub decreases-add_turns : goal.decreases-add_turns
 decreases-add_turns l = 3 * levels (view l.tree.now) + 1
 
-abbrev pub decreases-add_turn : goal.decreases-add_turn
-decreases-add_turn l = 3 * levels (view l.tree.now) + 1
+abbrev pub decreases-add_further_turns : goal.decreases-add_further_turns
+decreases-add_further_turns l = 3 * levels (view l.tree.now) + 1
 
 abbrev pub decreases-add_loop : goal.decreases-add_loop
 decreases-add_loop l = 3 * levels (view l.tree.now) + 1
