@@ -1,12 +1,13 @@
 -- Where a text may be cut: at no place inside its first character, or inside the end of a line that it begins with.
-use Rattle.std.proofs.Common.{◌≡◌, ◌<◌, ◌≤◌, ◌+◌, ◌-◌, ℕ, Bool, true, false, List, [], ◌∷◌, ◌++◌, length, take, drop, get_or, chars, Some, refl, sym, ap, subst, ◌∙◌, ◌⊎◌, inl, inr, arith}
+use Rattle.std.proofs.Common.{◌≡◌, ◌<◌, ◌≤◌, ◌+◌, ◌-◌, ℕ, Bool, true, false, List, [], ◌∷◌, ◌++◌, length, take, drop, get_or, chars, Some, refl, sym, ap, subst, ◌∙◌, ◌⊎◌, inl, inr, arith, length-append}
 use Rattle.std.proofs.Common.{if◌then◌else◌, ◌==◌, nat_lt}
+use Rattle.std.specs.Char.{len_utf8}
 use Rattle.std.specs.Str.{IsUtf8, IsCharBoundary}
 use Rattle.std.proofs.Math.Seq.{drop-append_seam}
 use Rattle.std.proofs.Math.Utf8.{encode, encodes}
 use Rattle.std.proofs.lemmas.Bool.Decides.{nat_tests}
 use Rattle.std.proofs.lemmas.List.{take-append-drop, length-drop, length-take, get_or-drop}
-use Rattle.std.proofs.lemmas.Str.{encodes-chars, chars-append, IsUtf8-take, IsUtf8-drop}
+use Rattle.std.proofs.lemmas.Str.{encodes-chars, chars-append, IsUtf8-take, IsUtf8-drop, length-encode}
 use Prim.Native.Char.{code}
 use Rattle.editor_documents.specs.Cursor.{IsCut}
 use Rattle.editor_documents.specs.Position.{Text, ends_line, after_line_feed, next_line}
@@ -16,6 +17,9 @@ use Rattle.editor_documents.proofs.TextLemmas.{cut_bytes, cut_lengths, cut_le}
 module _ (s a : List ℕ) (c : ℕ) (u : IsUtf8 s) (v : IsUtf8 a) (is : chars s ≡ c ∷ chars a) where
   pub first_bytes : s ≡ encodes (c ∷ []) ++ a
   first_bytes = cut_bytes s a (c ∷ []) u v is
+
+  pub first_length : length s ≡ len_utf8 c + length a
+  first_length = omega (arith, cut_lengths s a (c ∷ []) u v is, length-append (encode c) [], length-encode c)
 
   pub after_is : a ≡ drop (length s - length a) s
   after_is =

@@ -1,7 +1,17 @@
-use Rattle.std.proofs.Common.{rules, Some, ap, sym, ◌∙◌}
-use Rattle.editor_documents.proofs.CursorLemmas.{after_line, after_character}
-use Rattle.editor_documents.proofs.CutLemmas.{after_is, first_cut, line_is, line_near}
+use Rattle.std.proofs.Common.{rules, Some, ap, arith, sym, ◌∙◌}
+use Rattle.editor_documents.proofs.CursorLemmas.{after_line, after_character, units_within}
+use Rattle.editor_documents.proofs.CutLemmas.{after_is, first_cut, first_length, line_is, line_near}
 use Rattle.editor_documents.proofs.cursor.Cursor.next.Goals as goal
+
+pub overflow_add-character : goal.overflow_add-character
+overflow_add-character c =
+    let long = first_length c.args.self.rest.now c.in_ok-c.after.now c.in_ok-c.c (search rules) (search rules) c.in_ok-c.ensures.value in
+    omega (arith, long, c.args.self.units_fit, c.units.ensures, units_within c.args.self.encoding c.in_ok-c.c)
+
+pub invariant_of-result-2-clause-units_fit : goal.invariant_of-result-2-clause-units_fit
+invariant_of-result-2-clause-units_fit c =
+    let long = first_length c.args.self.rest.now c.in_ok-c.after.now c.in_ok-c.c (search rules) (search rules) c.in_ok-c.ensures.value in
+    omega (arith, long, c.args.self.units_fit, c.units.ensures, units_within c.args.self.encoding c.in_ok-c.c)
 
 pub returns-then-ends_line-clause-within : goal.returns-then-ends_line-clause-within
 returns-then-ends_line-clause-within c t within =
