@@ -33,7 +33,9 @@ impl Growth {
     fn counts(self) -> [usize; 3] {
         match self {
             Growth::Exponential => [5, 8, 11],
-            Growth::Polynomial | Growth::Search => [20, 40, 80],
+            Growth::Polynomial => [20, 40, 80],
+            // The turns of most repeats with a limit are fewer.
+            Growth::Search => [80, 160, 320],
         }
     }
 
@@ -87,8 +89,9 @@ pub(crate) fn grows(
         if outcome.is_stopped {
             return Ok(false);
         }
-        // A search that ends at its first position takes no steps from others.
-        least = taken.saturating_mul(growth.factor()).clamp(1, MANY_STEPS);
+        // A search that fails takes a step from each position, even if a shorter text matched at the first.
+        let least_taken = taken.max(searched.len());
+        least = least_taken.saturating_mul(growth.factor()).min(MANY_STEPS);
     }
     Ok(false)
 }
