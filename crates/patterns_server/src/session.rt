@@ -351,9 +351,10 @@ impl<'a, S: System, W: Write> Session<'a, S, W> {
             return Ok(());
         };
         let page = self.rule_page.as_str();
+        let rule_page = if page.is_empty() { None } else { Some(page) };
         let addresses = Addresses {
             document: uri,
-            rule_page: (!page.is_empty()).then_some(page),
+            rule_page,
         };
         let message = diagnostics(given, addresses, document)?;
         self.send(&message)
