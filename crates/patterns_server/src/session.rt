@@ -350,12 +350,7 @@ impl<'a, S: System, W: Write> Session<'a, S, W> {
         let Some(document) = self.documents.get_mut(uri) else {
             return Ok(());
         };
-        let page = self.rule_page.as_str();
-        let rule_page = if page.is_empty() { None } else { Some(page) };
-        let addresses = Addresses {
-            document: uri,
-            rule_page,
-        };
+        let addresses = addresses_of(uri, self.rule_page.as_str());
         let message = diagnostics(given, addresses, document)?;
         self.send(&message)
     }
@@ -492,6 +487,15 @@ fn write_of_document(
         Method::FoldingRange => write_folds(given, document, writer),
         Method::SemanticTokens => write_tokens(given, document, writer),
         _ => write_formatted(given, document, None, writer),
+    }
+}
+
+/// What reports on a document name; no page on rules if its address is empty.
+fn addresses_of<'a>(document: &'a str, page: &'a str) -> Addresses<'a> {
+    let rule_page = if page.is_empty() { None } else { Some(page) };
+    Addresses {
+        document,
+        rule_page,
     }
 }
 
